@@ -1,2 +1,12 @@
+pub mod Bytes
+pub mod Name
 pub mod Word
 pub mod Whole
+pub mod Line
+pub mod Lexeme
+pub mod Spelling
+pub mod Views
+pub mod Statement
+pub mod Cut
+pub mod Text
+pub mod Scanning

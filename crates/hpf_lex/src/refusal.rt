@@ -14,6 +14,49 @@ pub struct MapRefusal {
     pub column: u32,
 }
 
+/// What can be wrong with the bytes of a mapping text.
+#[derive(Clone, Copy, Debug, PartialEq, Eq)]
+pub enum Fault {
+    /// A byte outside a comment begins no token. It stands at the byte.
+    BadByte,
+    /// A number is above 2147483647, or a letter or `_` follows its digits directly. It stands at the first digit.
+    BadNumber,
+    /// A word has more than 31 bytes. It stands at the first of them.
+    NameTooLong,
+    /// No line of its kind continues a statement that goes on. It stands at the `&`.
+    DanglingContinuation,
+    /// The text has more than 1,048,576 bytes. It stands at line 0 and column 0.
+    TooLong,
+}
+
+impl Fault {
+    ghost use Rattle.hpf_lex.specs.Statement.{code_of, refusal_at};
+
+    /// The code number of the fault.
+    pub fn code(self) -> u8
+        ensures { result ≡ code_of self }
+    {
+        match self {
+            Fault::BadByte => 1,
+            Fault::BadNumber => 2,
+            Fault::NameTooLong => 3,
+            Fault::DanglingContinuation => 4,
+            Fault::TooLong => 5,
+        }
+    }
+
+    /// The refusal of a text for this fault at this place.
+    pub(crate) fn at(self, line: u32, column: u32) -> MapRefusal
+        ensures { result ≡ refusal_at self line column }
+    {
+        MapRefusal {
+            code: self.code(),
+            line,
+            column,
+        }
+    }
+}
+
 /// Why a call that reads a mapping text gave nothing.
 #[derive(Debug, Drop, Error)]
 pub enum MapError {

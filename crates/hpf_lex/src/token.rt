@@ -52,6 +52,23 @@ pub struct Token {
     pub column: u32,
 }
 
+impl Token {
+    ghost use Rattle.hpf_lex.specs.Statement.{bare_token};
+
+    /// A token that is no word and no number.
+    pub(crate) fn bare(kind: TokenKind, line: u32, column: u32) -> Token
+        ensures { result ≡ bare_token kind line column }
+    {
+        Token {
+            kind,
+            word: Word::empty(),
+            number: 0,
+            line,
+            column,
+        }
+    }
+}
+
 /// The tokens of a text. It is seen as the list of them, which ends with the end of a statement.
 #[derive(Drop)]
 pub struct Tokens {
@@ -73,6 +90,14 @@ impl Model for Tokens {
 
 impl Tokens {
     ghost use Rattle.hpf_lex.specs.Whole.{AreWhole};
+
+    /// The list of these tokens.
+    pub(crate) fn new(items: Vec<Token>) -> Tokens
+        requires { AreWhole items.items }
+        ensures { result ≡ items.items }
+    {
+        Tokens { items }
+    }
 
     /// The tokens, in order.
     pub fn as_slice(&self) -> &[Token]

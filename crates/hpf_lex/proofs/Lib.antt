@@ -1,0 +1,9 @@
+pub mod Words
+pub mod Lines
+pub mod Lexemes
+mod Rows
+pub mod Marks
+pub mod Parts
+pub mod Order
+pub mod Longest
+pub mod Cuts

@@ -1,0 +1,53 @@
+//! Laws of what a text says, each the contract of a function that does nothing.
+
+ghost use Rattle.std.specs.Prelude.{◌≡◌, ◌≤◌, ℕ, List, [], ◌∷◌, ◌⊎◌, length, take, Ok, Err, IsTrue};
+ghost use Rattle.std.specs.List.{AllByRecursion};
+ghost use Rattle.hpf_lex.specs.declared.lexeme.Lexeme.{Lexeme};
+ghost use Rattle.hpf_lex.specs.declared.refusal.Fault.TheVariants.{BadByte};
+ghost use Rattle.hpf_lex.specs.declared.refusal.MapRefusal.{MapRefusal};
+ghost use Rattle.hpf_lex.specs.declared.token.Token.{Token};
+ghost use Rattle.hpf_lex.specs.declared.token.TokenKind.{TokenKind};
+ghost use Rattle.hpf_lex.specs.Lexeme.{lexeme_at};
+ghost use Rattle.hpf_lex.specs.Cut.{Cut};
+ghost use Rattle.hpf_lex.specs.Spelling.{Spells, IsLongest};
+ghost use Rattle.hpf_lex.specs.Statement.{max_text, marks, text_marks};
+ghost use Rattle.hpf_lex.specs.Text.{HasTokens, HasFault, tokens_of, faults_of, stands_before};
+
+/// A text has its tokens or a first fault, never both, and one of them alone.
+pub fn one_reading()
+    ensures some { (text : List ℕ)
+        → ((tokens : List Token) × HasTokens text tokens) ⊎ ((f : MapRefusal) × HasFault text f) }
+    ensures never_both { (text : List ℕ) (tokens : List Token) (f : MapRefusal)
+        → HasTokens text tokens → HasFault text f → ⊥ }
+    ensures one_list { (text : List ℕ) (a b : List Token) → HasTokens text a → HasTokens text b → a ≡ b }
+    ensures one_fault { (text : List ℕ) (f g : MapRefusal) → HasFault text f → HasFault text g → f ≡ g }
+{}
+
+/// A text has tokens exactly where it has at most 1,048,576 bytes and nothing in it is a fault, and then they are all of
+/// its tokens. Else the first fault of a text of at most that length is one of its faults, and stands before each of the
+/// others.
+pub fn first_fault()
+    ensures tokens { (text : List ℕ) (tokens : List Token) → HasTokens text tokens
+        → (length text ≤ max_text) × (faults_of (text_marks text) ≡ []) × (tokens ≡ tokens_of (text_marks text)) }
+    ensures no_fault { (text : List ℕ) → length text ≤ max_text → faults_of (text_marks text) ≡ []
+        → HasTokens text (tokens_of (text_marks text)) }
+    ensures first { (text : List ℕ) (f : MapRefusal) → length text ≤ max_text → HasFault text f
+        → (others : List MapRefusal) × (faults_of (text_marks text) ≡ f ∷ others)
+        × AllByRecursion (λ g. IsTrue (stands_before f g)) others }
+{}
+
+/// A token is the longest that stands at its place, and a byte that begins no token is called so rightly.
+pub fn longest_token()
+    ensures longest { (bytes : List ℕ) (found : Lexeme) → lexeme_at bytes ≡ Ok found → IsLongest found bytes }
+    ensures bad_byte { (bytes : List ℕ) → lexeme_at bytes ≡ Err BadByte
+        → (kind : TokenKind) (n : ℕ) → n ≤ length bytes → Spells kind (take n bytes) → ⊥ }
+{}
+
+/// Bytes of a line that have no fault are blanks, a token, blanks, a token, and so on to their end. Their tokens are these
+/// and no others.
+pub fn cut_into_tokens()
+    ensures cut { (line column : ℕ) (bytes : List ℕ) → faults_of (marks line column 0 bytes) ≡ []
+        → Cut line column bytes (tokens_of (marks line column 0 bytes)) }
+    ensures only { (line column : ℕ) (bytes : List ℕ) (tokens : List Token) → Cut line column bytes tokens
+        → (faults_of (marks line column 0 bytes) ≡ []) × (tokens_of (marks line column 0 bytes) ≡ tokens) }
+{}
