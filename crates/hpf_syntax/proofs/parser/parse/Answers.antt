@@ -1,0 +1,11 @@
+use Rattle.hpf_syntax.proofs.Parsing.{answer_found, answer_only, answer_refused}
+use Rattle.hpf_syntax.proofs.parser.parse.Goals as goal
+
+pub returns-clause-found : goal.returns-clause-found
+returns-clause-found c = answer_found c.args.tokens.now c.parse_slice.result (rw c.as_slice.ensures.items at c.parse_slice.ensures)
+
+pub returns-clause-only : goal.returns-clause-only
+returns-clause-only c = answer_only c.args.tokens.now c.parse_slice.result (rw c.as_slice.ensures.items at c.parse_slice.ensures)
+
+pub returns-clause-refused : goal.returns-clause-refused
+returns-clause-refused c = answer_refused c.args.tokens.now c.as_slice.ensures.whole c.parse_slice.result (rw c.as_slice.ensures.items at c.parse_slice.ensures)

@@ -1,0 +1,335 @@
+-- The grammar of mapping texts (this project defines it, after Fortran 90 and High Performance Fortran 2.0).
+-- `Sign t` is the token t, `Separated R` is `R { "," R }`, `or` is a choice, and `Done x` is nothing, with the value x.
+-- What several alternatives begin with stands once, in front of them.
+use Rattle.std.specs.Prelude.{◌≡◌, List, [], ◌∷◌, ◌++◌, Option, Some, None}
+use Rattle.hpf_syntax.specs.declared.tree.At.{At}
+use Rattle.hpf_syntax.specs.declared.tree.Spot.{Spot}
+use Rattle.hpf_syntax.specs.declared.tree.SourceItem.{SourceItem}
+use Rattle.hpf_syntax.specs.declared.tree.SourceItem.TheVariants as source
+use Rattle.hpf_syntax.specs.declared.terminal.Terminal.{Terminal}
+use Rattle.hpf_syntax.specs.declared.terminal.Terminal.TheVariants as terminal
+use Rattle.hpf_syntax.specs.Plain.{Tree, BoundTree, bound_of, DeclaredTree, ValueTree, One, Many, ConstantTree, FormatTree, Star, Block, Cyclic, GenBlock, Indirect, SubTree, AnyPlace, OnePlace, Triplet, WidthTree, OpTree, Plain, Add, Mul, Prefix, Stencil, ItemTree, ImplicitNone, Variables, Constants, Processors, Template, Distribute, Align, Shadow, Input, Stage}
+use Rattle.hpf_syntax.specs.Rules.{Counted, Rule, Done, Then, ◌>>=◌, ◌or◌, Sign, AName, AnExpression, Separated}
+
+-- ---- pieces
+
+-- opening R { "," R } closing
+abbrev pub Enclosed : {A : Type 0} → Terminal → Terminal → Rule A → Rule (List A)
+Enclosed opening closing R = do
+  from ← Sign opening
+  list ← Separated R
+  to ← Sign closing
+  Done list
+
+-- "(" expr ")"
+abbrev pub AnArgument : Rule Tree
+AnArgument = do
+  from ← Sign terminal.LeftParen
+  e ← AnExpression
+  to ← Sign terminal.RightParen
+  Done e
+
+-- "(" name ")"
+abbrev pub ANameArgument : Rule Spot
+ANameArgument = do
+  from ← Sign terminal.LeftParen
+  name ← AName
+  to ← Sign terminal.RightParen
+  Done name
+
+-- [ ":" expr ]
+abbrev pub AfterColon : Rule (Option Tree)
+AfterColon = (Sign terminal.Colon >>= λ colon. AnExpression >>= λ e. Done (Some e)) or Done None
+
+-- name { "," name }
+abbrev pub Names : Rule (List Spot)
+Names = Separated AName
+
+-- "::" names
+abbrev pub NamesBehind : Rule (List Spot)
+NamesBehind = Sign terminal.DoubleColon >>= λ colons. Names
+
+-- ---- declarations
+
+-- bound = expr [ ":" expr ]
+abbrev pub ABound : Rule BoundTree
+ABound = do
+  first ← AnExpression
+  second ← AfterColon
+  Done (bound_of first second)
+
+-- "(" shape ")", where shape = bound { "," bound }
+abbrev pub AShape : Rule (List BoundTree)
+AShape = Enclosed terminal.LeftParen terminal.RightParen ABound
+
+-- [ "(" shape ")" ]
+abbrev pub OwnShape : Rule (List BoundTree)
+OwnShape = AShape or Done []
+
+-- variable = name [ "(" shape ")" ]
+abbrev pub AVariable : Rule DeclaredTree
+AVariable = do
+  name ← AName
+  shape ← OwnShape
+  Done (record { name = name; shape = shape })
+
+-- shaped = name "(" shape ")"
+abbrev pub AShaped : Rule DeclaredTree
+AShaped = do
+  name ← AName
+  shape ← AShape
+  Done (record { name = name; shape = shape })
+
+-- array = "(/" expr { "," expr } "/)"
+abbrev pub AnArray : Rule (List Tree)
+AnArray = Enclosed terminal.LeftArray terminal.RightArray AnExpression
+
+-- value = expr | array
+abbrev pub AValue : Rule ValueTree
+AValue = (AnArray >>= λ list. Done (Many list)) or (AnExpression >>= λ e. Done (One e))
+
+-- constant = name [ "(" shape ")" ] "=" value
+abbrev pub AConstant : Rule ConstantTree
+AConstant = do
+  name ← AName
+  shape ← OwnShape
+  equals ← Sign terminal.Equals
+  value ← AValue
+  Done (record { name = name; shape = shape; value = value })
+
+-- dimension = "DIMENSION" "(" shape ")"
+abbrev pub ADimension : Rule (List BoundTree)
+ADimension = Sign terminal.Dimension >>= λ at. AShape
+
+-- variables
+abbrev pub SomeVariables : List BoundTree → Rule ItemTree
+SomeVariables common = Separated AVariable >>= λ names. Done (Variables common names)
+
+-- "::" constants
+abbrev pub SomeConstants : List BoundTree → Rule ItemTree
+SomeConstants common = do
+  colons ← Sign terminal.DoubleColon
+  names ← Separated AConstant
+  Done (Constants common names)
+
+-- behind a dimension: "," "PARAMETER" "::" constants | "::" variables
+abbrev pub BehindDimension : List BoundTree → Rule ItemTree
+BehindDimension common =
+    (Sign terminal.Comma >>= λ comma. Sign terminal.Parameter >>= λ at. SomeConstants common)
+    or (Sign terminal.DoubleColon >>= λ colons. SomeVariables common)
+
+-- [ "," dimension ]
+abbrev pub MoreDimension : Rule (List BoundTree)
+MoreDimension = (Sign terminal.Comma >>= λ comma. ADimension) or Done []
+
+-- behind "INTEGER" ",": dimension .. | "PARAMETER" [ "," dimension ] "::" constants
+abbrev pub Attributes : Rule ItemTree
+Attributes =
+    (ADimension >>= λ common. BehindDimension common)
+    or (Sign terminal.Parameter >>= λ at. MoreDimension >>= λ common. SomeConstants common)
+
+-- [ "::" ]
+abbrev pub MaybeColons : Rule (Unit {0})
+MaybeColons = (Sign terminal.DoubleColon >>= λ colons. Done tt) or Done tt
+
+-- behind "INTEGER": "," .. | [ "::" ] variables
+abbrev pub BehindInteger : Rule ItemTree
+BehindInteger = (Sign terminal.Comma >>= λ comma. Attributes) or (MaybeColons >>= λ colons. SomeVariables [])
+
+-- fortran = "IMPLICIT" "NONE" | "INTEGER" ..
+abbrev pub Fortran : Rule ItemTree
+Fortran =
+    (Sign terminal.Implicit >>= λ at. Sign terminal.NoneWord >>= λ none. Done (ImplicitNone at))
+    or (Sign terminal.Integer >>= λ at. BehindInteger)
+
+-- ---- directives
+
+-- [ "(" expr ")" ]
+abbrev pub FormatWidth : Rule (Option Tree)
+FormatWidth = (AnArgument >>= λ e. Done (Some e)) or Done None
+
+-- format = "*" | "BLOCK" [ "(" expr ")" ] | "CYCLIC" [ "(" expr ")" ] | "GEN_BLOCK" "(" name ")" | "INDIRECT" "(" name ")"
+abbrev pub AFormat : Rule FormatTree
+AFormat =
+    (Sign terminal.Star >>= λ at. Done (Star at))
+    or ((Sign terminal.Block >>= λ at. FormatWidth >>= λ width. Done (Block at width))
+    or ((Sign terminal.Cyclic >>= λ at. FormatWidth >>= λ width. Done (Cyclic at width))
+    or ((Sign terminal.GenBlock >>= λ at. ANameArgument >>= λ name. Done (GenBlock at name))
+    or (Sign terminal.Indirect >>= λ at. ANameArgument >>= λ name. Done (Indirect at name)))))
+
+-- "(" formats ")"
+abbrev pub Formats : Rule (List FormatTree)
+Formats = Enclosed terminal.LeftParen terminal.RightParen AFormat
+
+-- [ "ONTO" name ]
+abbrev pub Onto : Rule (Option Spot)
+Onto = (Sign terminal.Onto >>= λ at. AName >>= λ name. Done (Some name)) or Done None
+
+-- name "(" formats ")" [ "ONTO" name ]
+abbrev pub DistributeOne : Rule ItemTree
+DistributeOne = do
+  name ← AName
+  formats ← Formats
+  onto ← Onto
+  Done (Distribute (name ∷ []) formats onto)
+
+-- "(" formats ")" [ "ONTO" name ] "::" names
+abbrev pub DistributeMany : Rule ItemTree
+DistributeMany = do
+  formats ← Formats
+  onto ← Onto
+  names ← NamesBehind
+  Done (Distribute names formats onto)
+
+-- source = ":" | "*" | name
+abbrev pub ASource : Rule SourceItem
+ASource =
+    (Sign terminal.Colon >>= λ at. Done (source.Colon at))
+    or ((Sign terminal.Star >>= λ at. Done (source.Star at)) or (AName >>= λ name. Done (source.Dummy name)))
+
+-- [ "(" sources ")" ]
+abbrev pub Sources : Rule (Option (List SourceItem))
+Sources = (Enclosed terminal.LeftParen terminal.RightParen ASource >>= λ list. Done (Some list)) or Done None
+
+-- [ expr ]
+abbrev pub MaybeExpression : Rule (Option Tree)
+MaybeExpression = (AnExpression >>= λ e. Done (Some e)) or Done None
+
+-- the rest of a triplet, from its first colon on: "::" expr | ":" [ expr ] [ ":" expr ]
+abbrev pub ATriplet : Option Tree → Rule SubTree
+ATriplet low =
+    (Sign terminal.DoubleColon >>= λ at. AnExpression >>= λ step. Done (Triplet at low None (Some step)))
+    or (Sign terminal.Colon >>= λ at. MaybeExpression >>= λ high. AfterColon >>= λ step. Done (Triplet at low high step))
+
+-- sub = "*" | expr | triplet, where a triplet may begin with an expression
+abbrev pub ASub : Rule SubTree
+ASub =
+    (Sign terminal.Star >>= λ at. Done (AnyPlace at))
+    or (ATriplet None or (AnExpression >>= λ e. ATriplet (Some e) or Done (OnePlace e)))
+
+-- [ "(" subs ")" ]
+abbrev pub Subs : Rule (Option (List SubTree))
+Subs = (Enclosed terminal.LeftParen terminal.RightParen ASub >>= λ list. Done (Some list)) or Done None
+
+-- name [ "(" sources ")" ] "WITH" name [ "(" subs ")" ]
+abbrev pub AlignOne : Rule ItemTree
+AlignOne = do
+  name ← AName
+  sources ← Sources
+  word ← Sign terminal.With
+  base ← AName
+  subs ← Subs
+  Done (Align (name ∷ []) sources base subs)
+
+-- [ "(" sources ")" ] "WITH" name [ "(" subs ")" ] "::" names
+abbrev pub AlignMany : Rule ItemTree
+AlignMany = do
+  sources ← Sources
+  word ← Sign terminal.With
+  base ← AName
+  subs ← Subs
+  names ← NamesBehind
+  Done (Align names sources base subs)
+
+-- width = expr [ ":" expr ]
+abbrev pub AWidth : Rule WidthTree
+AWidth = do
+  low ← AnExpression
+  high ← AfterColon
+  Done (record { low = low; high = high })
+
+-- "(" widths ")"
+abbrev pub Widths : Rule (List WidthTree)
+Widths = Enclosed terminal.LeftParen terminal.RightParen AWidth
+
+-- name "(" widths ")"
+abbrev pub ShadowOne : Rule ItemTree
+ShadowOne = do
+  name ← AName
+  widths ← Widths
+  Done (Shadow (name ∷ []) widths)
+
+-- "(" widths ")" "::" names
+abbrev pub ShadowMany : Rule ItemTree
+ShadowMany = do
+  widths ← Widths
+  names ← NamesBehind
+  Done (Shadow names widths)
+
+-- directive = "PROCESSORS" .. | "TEMPLATE" .. | "DISTRIBUTE" .. | "ALIGN" .. | "SHADOW" ..
+abbrev pub ADirective : Rule ItemTree
+ADirective =
+    (Sign terminal.Processors >>= λ at. Separated AShaped >>= λ names. Done (Processors names))
+    or ((Sign terminal.Template >>= λ at. Separated AShaped >>= λ names. Done (Template names))
+    or ((Sign terminal.Distribute >>= λ at. DistributeOne or DistributeMany)
+    or ((Sign terminal.Align >>= λ at. AlignOne or AlignMany)
+    or (Sign terminal.Shadow >>= λ at. ShadowOne or ShadowMany))))
+
+-- ---- pipelines
+
+-- [ "BUFFERS" "(" expr ")" ]
+abbrev pub Buffers : Rule (Option Tree)
+Buffers = (Sign terminal.Buffers >>= λ at. AnArgument >>= λ e. Done (Some e)) or Done None
+
+-- behind "STENCIL": "(" expr "," array ")"
+abbrev pub AStencil : At → Rule OpTree
+AStencil at = do
+  from ← Sign terminal.LeftParen
+  e ← AnExpression
+  comma ← Sign terminal.Comma
+  weights ← AnArray
+  to ← Sign terminal.RightParen
+  Done (Stencil at e weights)
+
+-- [ "ADD" "(" expr ")" | "MUL" "(" expr ")" | "PREFIX" "(" expr ")" | "STENCIL" .. ]
+abbrev pub Operation : Rule OpTree
+Operation =
+    (Sign terminal.Add >>= λ at. AnArgument >>= λ e. Done (Add at e))
+    or ((Sign terminal.Mul >>= λ at. AnArgument >>= λ e. Done (Mul at e))
+    or ((Sign terminal.Prefix >>= λ at. AnArgument >>= λ e. Done (Prefix at e))
+    or ((Sign terminal.Stencil >>= λ at. AStencil at) or Done Plain)))
+
+-- [ "PERMUTE" "(" expr { "," expr } ")" ]
+abbrev pub Permute : Rule (Option (List Tree))
+Permute =
+    (Sign terminal.Permute >>= λ at. Enclosed terminal.LeftParen terminal.RightParen AnExpression >>= λ list. Done (Some list))
+    or Done None
+
+-- name [ buffers ] [ operation ]
+abbrev pub AnInput : At → Rule ItemTree
+AnInput at = do
+  name ← AName
+  buffers ← Buffers
+  op ← Operation
+  Done (Input at name buffers op)
+
+-- name [ permute ] [ buffers ] [ operation ]
+abbrev pub AStage : At → Rule ItemTree
+AStage at = do
+  name ← AName
+  permute ← Permute
+  buffers ← Buffers
+  op ← Operation
+  Done (Stage at name permute buffers op)
+
+-- pipeline = "INPUT" .. | "STAGE" ..
+abbrev pub APipeline : Rule ItemTree
+APipeline = (Sign terminal.Input >>= λ at. AnInput at) or (Sign terminal.Stage >>= λ at. AStage at)
+
+-- ---- the text
+
+-- statement = fortran | Hpf directive | Pipe pipeline
+abbrev pub AStatement : Rule ItemTree
+AStatement = (Sign terminal.Hpf >>= λ at. ADirective) or ((Sign terminal.Pipe >>= λ at. APipeline) or Fortran)
+
+-- statement End
+abbrev pub ALine : Rule ItemTree
+ALine = do
+  item ← AStatement
+  end ← Sign terminal.End
+  Done item
+
+-- text = { statement End }
+abbrev pub IsText : List Counted → List ItemTree → Type 0
+IsText cs [] = cs ≡ []
+IsText cs (x ∷ xs) = (front : List Counted) × (back : List Counted) × ALine front x × IsText back xs × (cs ≡ front ++ back)

@@ -1,0 +1,10 @@
+pub mod Plain
+pub mod Terminal
+pub mod Reading
+pub mod Partial
+pub mod Statements
+pub mod Refusal
+pub mod Expressions
+pub mod Rules
+pub mod Grammar
+pub mod FirstFault
