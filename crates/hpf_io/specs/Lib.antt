@@ -1,0 +1,10 @@
+pub mod Counts
+pub mod Bytes
+pub mod Files
+pub mod Moves
+pub mod Spends
+pub mod Writes
+pub mod Calls
+pub mod Sinks
+pub mod Loaders
+pub mod Adapted
