@@ -1,0 +1,59 @@
+-- One divided dimension.
+use Rattle.std.specs.Prelude.{ℕ, ◌+◌, ◌-◌, ◌*◌, ◌^◌, ◌<◌, ◌≤◌, ℤ, pos, ◌-ℤ◌, ◌≤ℤ◌, neg_ℤ, unsigned_abs}
+use Rattle.hpf_dist.specs.declared.format.Format.{Format}
+use Rattle.hpf_dist.specs.declared.format.Format.TheVariants.{Block}
+use Rattle.hpf_dist.specs.declared.refusal.AxisRefusal.{AxisRefusal}
+use Rattle.hpf_dist.specs.declared.refusal.AxisRefusal.TheVariants.{WidthZero, BlockTooSmall}
+
+-- a dimension from low to high, divided over n processors
+pub record Divided : Type 0 where
+  pub low : ℤ
+  pub high : ℤ
+  pub procs : ℕ
+  pub format : Format
+
+-- how many positions lie from low to high, for low at most high
+abbrev pub extent : ℤ → ℤ → ℕ
+extent low high = unsigned_abs (high -ℤ low) + 1
+
+-- how many positions lie before t
+abbrev pub before : ℤ → ℤ → ℕ
+before low t = unsigned_abs (t -ℤ low)
+
+-- bounds of an index space (this project sets the limits)
+pub record AreBounds (low high : ℤ) : Type 0 where
+  pub least : neg_ℤ (pos (2 ^ 31 - 1)) ≤ℤ low
+  pub order : low ≤ℤ high
+  pub greatest : high ≤ℤ pos (2 ^ 31 - 1)
+  pub positions : extent low high ≤ 2 ^ 31 - 1
+
+-- a number of processors (this project sets the limit)
+pub record AreProcs (n : ℕ) : Type 0 where
+  pub least : 1 ≤ n
+  pub greatest : n ≤ 64
+
+-- the numbers of a format are within the limit that this project sets
+abbrev pub HasSmallNumbers : Format → Type 0
+HasSmallNumbers (Block width) = width ≤ 2 ^ 31 - 1
+
+-- blocks of this width, over n processors, deal out d positions
+pub record Reaches (d n width : ℕ) : Type 0 where
+  pub some : 1 ≤ width
+  pub enough : d ≤ width * n
+
+-- The condition of a format over an extent d and n processors: a block has a position, and all blocks together reach
+-- the extent (High Performance Fortran 2.0, Data Mapping, DISTRIBUTE).
+abbrev pub Suits : ℕ → ℕ → Format → Type 0
+Suits d n (Block width) = Reaches d n width
+
+-- what is broken of that condition, and its refusal (this project names the refusals)
+pub data Breaks (d n : ℕ) : Format → AxisRefusal → Type 0 where
+  NoWidth : Breaks d n (Block 0) WidthZero
+  TooSmall : (width : ℕ) → 1 ≤ width → width * n < d → Breaks d n (Block width) BlockTooSmall
+
+-- A dimension that may be: bounds, a number of processors, and a format that suits them.
+pub record IsAxis (axis : Divided) : Type 0 where
+  pub bounds : AreBounds axis.low axis.high
+  pub procs : AreProcs axis.procs
+  pub small : HasSmallNumbers axis.format
+  pub suits : Suits (extent axis.low axis.high) axis.procs axis.format

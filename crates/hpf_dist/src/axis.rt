@@ -1,0 +1,125 @@
+//! One divided dimension.
+
+ghost use Rattle.std.specs.Prelude.{◌≡◌, ◌<◌, ◌≤◌, ◌≤ℤ◌, ◌↔◌, IsOk, IfOk, IsNone};
+ghost use Rattle.hpf_dist.specs.Owner.{own, ceiling};
+ghost use Rattle.hpf_dist.specs.Axis.{AreBounds, AreProcs, HasSmallNumbers, Suits, Breaks, extent, before};
+ghost use Rattle.hpf_dist.specs.declared.refusal.AxisRefusal.{AxisRefusal};
+
+use crate::{AxisRefusal, Format};
+use std::alloc::Global;
+use std::marker::Model;
+
+/// A dimension of an index space that is divided over the processors of one processor dimension.
+/// Its positions are the whole numbers from its lower to its upper bound.
+#[derive(Drop)]
+pub struct Axis {
+    low: i64,
+    high: i64,
+    procs: u32,
+    format: Format,
+}
+
+impl Model for Axis {
+    ghost use Rattle.hpf_dist.specs.Axis.{Divided, IsAxis};
+
+    ghost Value = { Divided };
+
+    ghost view = { λ a. record { low = a.low; high = a.high; procs = a.procs; format = a.format } };
+
+    ghost invariant = { λ a. IsAxis (record { low = a.low; high = a.high; procs = a.procs; format = a.format }) };
+}
+
+impl Axis {
+    /// Divides the positions from `low` to `high` over so many processors.
+    ///
+    /// `WidthZero` comes where a block has no position, and `BlockTooSmall` where it has some, but all blocks together
+    /// fewer than the dimension. Nothing else is refused; blocks take no memory.
+    pub fn new(
+        _alloc: Global,
+        low: i64,
+        high: i64,
+        procs: u32,
+        format: Format,
+    ) -> Result<Axis, AxisRefusal>
+        requires bounds { AreBounds low high }
+        requires procs { AreProcs procs }
+        requires widths { HasSmallNumbers format }
+        ensures suits { IsOk result ↔ Suits (extent low high) procs format }
+        ensures axis { IfOk result (λ axis. axis
+            ≡ record { low = low; high = high; procs = procs; format = format }) }
+        ensures refused { (refusal : AxisRefusal)
+            → (result ≡ Err refusal) ↔ Breaks (extent low high) procs format refusal }
+    {
+        match refusal_of(extent_of(low, high), procs, format) {
+            Some(refusal) => Err(refusal),
+            None => Ok(Axis {
+                low,
+                high,
+                procs,
+                format,
+            }),
+        }
+    }
+
+    /// The coordinate, from 0, of the processor that owns the position `t`.
+    pub fn owner(&self, t: i64) -> u32
+        requires low { self.now.low ≤ℤ t }
+        requires high { t ≤ℤ self.now.high }
+        ensures owner { result ≡ own self.now.format self.now.procs (before self.now.low t) }
+        ensures below { result < self.now.procs }
+    {
+        let before = (t - self.low) as u64;
+        match self.format {
+            Format::Block(width) => (before / width) as u32,
+        }
+    }
+}
+
+/// How many positions lie from `low` to `high`.
+fn extent_of(low: i64, high: i64) -> u64
+    requires { AreBounds low high }
+    ensures { result ≡ extent low high }
+{
+    (high - low) as u64 + 1
+}
+
+/// Why the format doesn't suit so many positions and processors, if it doesn't.
+fn refusal_of(extent: u64, procs: u32, format: Format) -> Option<AxisRefusal>
+    requires procs { AreProcs procs }
+    requires widths { HasSmallNumbers format }
+    ensures suits { IsNone result ↔ Suits extent procs format }
+    ensures refused { (refusal : AxisRefusal)
+        → (result ≡ Some refusal) ↔ Breaks extent procs format refusal }
+{
+    match format {
+        Format::Block(width) => block_refusal(extent, procs, width),
+    }
+}
+
+/// The same for blocks of this width.
+fn block_refusal(extent: u64, procs: u32, width: u64) -> Option<AxisRefusal>
+    requires procs { AreProcs procs }
+    requires widths { HasSmallNumbers (Format.Block width) }
+    ensures suits { IsNone result ↔ Suits extent procs (Format.Block width) }
+    ensures refused { (refusal : AxisRefusal)
+        → (result ≡ Some refusal) ↔ Breaks extent procs (Format.Block width) refusal }
+{
+    if width == 0 {
+        Some(AxisRefusal::WidthZero)
+    } else if width * u64::from(procs) < extent {
+        Some(AxisRefusal::BlockTooSmall)
+    } else {
+        None
+    }
+}
+
+/// The width of the blocks, in positions, by which so many positions are divided evenly over so many processors:
+/// their quotient, rounded up.
+pub fn even_width(extent: u64, procs: u32) -> u64
+    requires { 1 ≤ procs }
+    ensures width { result ≡ ceiling extent procs }
+    ensures small { result ≤ extent }
+    ensures suits { 1 ≤ extent → Suits extent procs (Format.Block result) }
+{
+    extent.div_ceil(u64::from(procs))
+}
