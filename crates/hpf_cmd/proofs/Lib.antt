@@ -1,0 +1,13 @@
+pub mod Forms
+pub mod SameForms
+pub mod Numbers
+pub mod WordsLemmas
+pub mod Weights
+pub mod Dealt
+pub mod Grown
+pub mod SoFar
+pub mod Prefix
+pub mod MarkLinesLemmas
+pub mod Answered
+pub mod Asked
+pub mod Rows

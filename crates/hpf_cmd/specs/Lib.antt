@@ -1,0 +1,15 @@
+pub mod Words
+pub mod Declaration
+pub mod FirstForm
+pub mod Names
+pub mod StatusText
+pub mod MarkLine
+pub mod MarkLines
+pub mod Part
+pub mod Mark
+pub mod Parts
+pub mod Pipeline
+pub mod Run
+pub mod Stops
+pub mod Pass
+pub mod Runs
