@@ -11,3 +11,4 @@ pub mod MarkLinesLemmas
 pub mod Answered
 pub mod Asked
 pub mod Rows
+pub mod Completed

@@ -49,3 +49,15 @@ Idle statuses.ReadFault = ⊥
 Idle statuses.WriteFault = ⊥
 Idle statuses.LoadFault = Unit {0}
 Idle statuses.OutOfMemory = Unit {0}
+
+-- All was done, or there was too little memory.
+abbrev pub IsOkOrMemory : Status → Type 0
+IsOkOrMemory statuses.Ok = Unit {0}
+IsOkOrMemory (statuses.Usage code) = ⊥
+IsOkOrMemory (statuses.MapRefused code line column) = ⊥
+IsOkOrMemory (statuses.InputRefused code offset) = ⊥
+IsOkOrMemory (statuses.PlanTooLarge elements) = ⊥
+IsOkOrMemory statuses.ReadFault = ⊥
+IsOkOrMemory statuses.WriteFault = ⊥
+IsOkOrMemory statuses.LoadFault = ⊥
+IsOkOrMemory statuses.OutOfMemory = Unit {0}

@@ -9,7 +9,7 @@ ghost use Rattle.hpf_cmd.specs.FirstForm.{Extents};
 ghost use Rattle.hpf_cmd.specs.MarkLines.{mark_lines};
 ghost use Rattle.hpf_cmd.specs.Pipeline.{one_stage, Answers};
 ghost use Rattle.hpf_cmd.specs.Run.{Finishes};
-ghost use Rattle.hpf_cmd.specs.Runs.{Runs, Began, Stopped, Idle};
+ghost use Rattle.hpf_cmd.specs.Runs.{Runs, Began, Stopped, Idle, IsOkOrMemory};
 ghost use Rattle.hpf_cmd.specs.Words.{AskRun};
 
 use crate::first_form::first_form;
@@ -71,6 +71,14 @@ pub fn command_one<L: Loader, S: Source, K: Sink, N: Sink>(
     ensures notes { (all : Files) (form : Extents) → L.files texts.new ≡ Some all → Runs (map string_bytes words.now) all form
         → (notes.new ≡ notes.old) ⊎ ((read : List (List ℤ)) × Finishes (one_stage form.elements) read (S.left frames.old) (S.left frames.new) (K.given out.old) (K.given out.new) (K.flushed out.new)
         × AddsPrefix (N.given notes.old) (N.given notes.new) (mark_lines form.elements form.procs read)) }
+
+    // It never gives up by itself: where the words, the map and the input are as they should be, and no count of a
+    // fault rose, all is done, or there is too little memory.
+    ensures complete { (all : Files) (form : Extents) (runs : Runs (map string_bytes words.now) all form) (input rest : List ℕ) (read : List (List ℤ))
+        → L.files texts.new ≡ Some all → S.left frames.old ≡ Some input → S.left frames.new ≡ Some rest → IsFile (form.elements ∷ []) read input
+        → (Rose (L.faults texts.old) (L.faults texts.new) → L.missed texts.new ≢ Some runs.name)
+        → ¬ Rose (S.faults frames.old) (S.faults frames.new) → ¬ Rose (K.faults out.old) (K.faults out.new) → ¬ Rose (N.faults notes.old) (N.faults notes.new)
+        → IsOkOrMemory result }
 
     // What was touched.
     ensures usage_texts { (code : ℕ) → result ≡ Status.Usage code → texts.new ≡ texts.old }

@@ -1,5 +1,6 @@
 use Rattle.std.proofs.Common.{inl, inr, ◌∙◌}
 use Rattle.hpf_cmd.proofs.Asked.{same_form, no_form, the_form}
+use Rattle.hpf_cmd.proofs.Completed.{completed}
 use Rattle.hpf_cmd.proofs.Answered.{prefix_answered, no_file_held}
 use Rattle.hpf_cmd.proofs.command.command_one.Goals as goal
 
@@ -53,3 +54,22 @@ returns-clause-notes g c = λ all form told runs.
     let front = c.in-Ok.ensures.front all told in
     let same = same_form _ all c.in-Some.name.now c.as_slice.result.now form _ c.in-Some.ensures.found (front.0, front.1, c.as_slice.ensures ∙ front.2) c.in-Some-first_form.ensures.found runs in
     rw same c.run_form.ensures.notes
+
+pub returns-in-None-clause-complete : goal.returns-in-None-clause-complete
+returns-in-None-clause-complete g c = λ all form runs input rest read told before after file missed.
+    let front = c.in-Ok.ensures.front all told in
+    absurd (no_form _ all c.in-Some.name.now c.as_slice.result.now form c.in-Some.ensures.found (front.0, front.1, c.as_slice.ensures ∙ front.2) c.in-None.ensures.none runs)
+
+pub returns-clause-complete : goal.returns-clause-complete
+returns-clause-complete g c = λ all form runs input rest read told before after file missed read_well written noted.
+    let front = c.in-Ok.ensures.front all told in
+    let same = same_form _ all c.in-Some.name.now c.as_slice.result.now form _ c.in-Some.ensures.found (front.0, front.1, c.as_slice.ensures ∙ front.2) c.in-Some-first_form.ensures.found runs in
+    let ran = c.run_form.ensures in
+    completed _ ran.kinds
+    (λ code offset refused. no_file_held _ input rest read (ran.no_file code offset refused) before after (rw same at file))
+    (λ fault. read_well (ran.unread fault))
+    (λ fault. elim (ran.unwritten fault) [ inl rose ↦ written rose | inr marks ↦ noted marks.0 ])
+
+pub returns-in_default-clause-complete : goal.returns-in_default-clause-complete
+returns-in_default-clause-complete g c = λ all form runs input rest read told before after file missed read_well written noted.
+    absurd (c.in_default.ensures.none runs.name runs.asked)
