@@ -181,6 +181,7 @@ pub fn read_frame<S: Source>(
 
     ensures end { OnEnd result (Takes (S.left from.old) (S.left from.new) (end_of at.old.frames)) }
     ensures over { OnEnd result (IsOver (S.left from.new)) }
+    ensures kept { OnEnd result (into.new ≡ into.old) }
     ensures stopped { UnlessFrame result (at.new ≡ record at.old { live = false }) }
 
     ensures code { OnRefused result IsNotBuilt }

@@ -76,6 +76,8 @@ impl<R: Files> Loader for FileLoader<'_, R> {
 
     /// An error of the system is `Failed`, and want of memory for the name or the text `Memory`.
     fn load(&mut self, alloc: Global, name: &str, limit: usize) -> Result<Text, LoadError>
+        // The text is the front of a file that was opened, as far as its bytes are known.
+        ensures front { IfOk result (λ text. (file : R.File) × IfSome (R.File.remaining file) (λ bytes. text ≡ take (limit + 1) bytes)) }
         ensures within { IfOk result (λ text. length text ≤ limit + 1) }
         ensures fault { IsErrOf result LoadError.Failed → self.new.faults ≡ one_more_fault self.old.faults }
         ensures name { IsErrOf result LoadError.Failed → self.new.missed ≡ Some name.now }

@@ -11,7 +11,9 @@ pub struct NullSink;
 
 impl NullSink {
     /// A sink that takes everything.
-    pub fn new() -> NullSink {
+    pub fn new() -> NullSink
+        ensures { result ≡ record {} }
+    {
         NullSink
     }
 }

@@ -1,11 +1,12 @@
 //! A sink over a writer of std.
 
-ghost use Rattle.std.specs.Prelude.{◌≡◌, ◌<◌, ◌≤◌, length, [], None, IfOk, OnOk, OnErr, refl};
+ghost use Rattle.std.specs.Prelude.{◌≡◌, ◌<◌, ◌≤◌, ◌⊎◌, length, [], Some, None, IfOk, OnOk, OnErr, refl};
 ghost use Rattle.std.specs.Io.KnownBytes.{Keeps, WriteAppends};
 ghost use Rattle.hpf_io.specs.Calls.{one_more_fault};
 
 use crate::failed::Failed;
 use crate::sink::Sink;
+use std::io;
 use std::io::Write;
 use std::marker::Model;
 
@@ -34,6 +35,19 @@ impl<W: Write> StdSink<W> {
     }
 }
 
+/// How much of the piece a writer took. An error is a fault, which is `None`, and so is to take nothing of a piece that
+/// isn't empty.
+fn taken(answer: io::Result<usize>, piece: &[u8]) -> Option<usize>
+    ensures count { IfOk answer (λ n. (0 < n) ⊎ (length piece.now ≡ 0) → result ≡ Some n) }
+    ensures nothing { IfOk answer (λ n. n ≡ 0 → 0 < length piece.now → result ≡ None) }
+    ensures error { OnErr answer (result ≡ None) }
+{
+    match answer {
+        Ok(count) if count > 0 || piece.is_empty() => Some(count),
+        _ => None,
+    }
+}
+
 impl<W: Write> Sink for StdSink<W> {
     ghost given = { λ _. None };
 
@@ -52,9 +66,9 @@ impl<W: Write> Sink for StdSink<W> {
         ensures counted { OnOk result (self.new.faults ≡ self.old.faults) }
         ensures later { self.old.faults ≤ self.new.faults }
     {
-        match self.to.write(from) {
-            Ok(count) if count > 0 || from.is_empty() => Ok(count),
-            _ => {
+        match taken(self.to.write(from), from) {
+            Some(count) => Ok(count),
+            None => {
                 self.faults = self.faults.saturating_add(1);
                 Err(Failed)
             }
