@@ -7,3 +7,7 @@ pub mod Parts
 pub mod Order
 pub mod Longest
 pub mod Cuts
+pub mod Spelled
+pub mod Numerals
+pub mod Proper
+pub mod OneLines

@@ -56,7 +56,7 @@ pub lines-none : lines_of [] ≡ []
 unfolding lines_of
 lines-none = refl
 
-lines-feed : (text : List ℕ) → lines_of (10 ∷ text) ≡ [] ∷ lines_of text
+pub lines-feed : (text : List ℕ) → lines_of (10 ∷ text) ≡ [] ∷ lines_of text
 unfolding lines_of
 lines-feed text = refl
 
@@ -64,7 +64,7 @@ lines-return : (text : List ℕ) → get_or text 0 0 ≡ 10 → lines_of (13 ∷
 unfolding lines_of
 lines-return text h = rw h refl
 
-lines-byte : (c : ℕ) (text line : List ℕ) (lines : List (List ℕ)) → eqb c 10 ≡ false → (eqb c 13 && eqb (get_or text 0 0) 10) ≡ false → lines_of text ≡ line ∷ lines → lines_of (c ∷ text) ≡ (c ∷ line) ∷ lines
+pub lines-byte : (c : ℕ) (text line : List ℕ) (lines : List (List ℕ)) → eqb c 10 ≡ false → (eqb c 13 && eqb (get_or text 0 0) 10) ≡ false → lines_of text ≡ line ∷ lines → lines_of (c ∷ text) ≡ (c ∷ line) ∷ lines
 unfolding lines_of
 lines-byte c text line lines h k e = rw (h, k, e) refl
 

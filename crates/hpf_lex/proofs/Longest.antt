@@ -34,7 +34,7 @@ all_spelled (c ∷ bytes) (suc n) le h =
     let ih = all_spelled bytes n (omega arith) parts.1 in
     omega (arith, ap length here)
 
-digits_are_name_bytes : (bytes : List ℕ) → list_all is_digit bytes ≡ true → list_all is_name_byte bytes ≡ true
+pub digits_are_name_bytes : (bytes : List ℕ) → list_all is_digit bytes ≡ true → list_all is_name_byte bytes ≡ true
 digits_are_name_bytes [] h = refl
 digits_are_name_bytes (c ∷ bytes) h =
     let parts = and_parts (is_digit c) (list_all is_digit bytes) h in
@@ -47,11 +47,11 @@ digit_no_letter c h =
     let high : c ≤ 57 = leb-true c 57 parts.1 in
     grind (arith, nat_tests)
 
-letter_at : (c : ℕ) (bytes : List ℕ) → is_letter c ≡ true → lexeme_at (c ∷ bytes) ≡ word_at (c ∷ bytes)
+pub letter_at : (c : ℕ) (bytes : List ℕ) → is_letter c ≡ true → lexeme_at (c ∷ bytes) ≡ word_at (c ∷ bytes)
 unfolding lexeme_at
 letter_at c bytes h = rw h refl
 
-digit_at : (c : ℕ) (bytes : List ℕ) → is_digit c ≡ true → lexeme_at (c ∷ bytes) ≡ number_at (c ∷ bytes)
+pub digit_at : (c : ℕ) (bytes : List ℕ) → is_digit c ≡ true → lexeme_at (c ∷ bytes) ≡ number_at (c ∷ bytes)
 unfolding lexeme_at
 digit_at c bytes h = rw (digit_no_letter c h, h) refl
 

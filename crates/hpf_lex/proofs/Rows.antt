@@ -1,14 +1,19 @@
 -- Rows of the format, worked out by hand, so that a wrong definition is noticed.
-use Rattle.std.proofs.Common.{◌≡◌, ℕ, List, [], ◌∷◌, ◌++◌, Ok, Err, refl}
-use Rattle.std.specs.Prelude.{codes}
+use Rattle.std.proofs.Common.{◌≡◌, ℕ, ◌+◌, ◌-◌, true, false, List, [], ◌∷◌, ◌++◌, length, Ok, Err, refl}
+use Rattle.std.specs.Prelude.{codes, slice_index}
+use Rattle.hpf_lex.specs.declared.line.Form.TheVariants.{Fortran, Directive}
 use Rattle.hpf_lex.specs.declared.token.Token.{Token}
 use Rattle.hpf_lex.specs.declared.token.TokenKind.{TokenKind}
 use Rattle.hpf_lex.specs.declared.token.TokenKind.TheVariants as kind
 use Rattle.hpf_lex.specs.Bytes.{is_blank}
 use Rattle.hpf_lex.specs.Line.{lines_of, form_of, part_of, parts_of}
+use Rattle.hpf_lex.specs.Cut.{Cut}
+use Rattle.hpf_lex.specs.Follows.{goes_on, StopsAt}
 use Rattle.hpf_lex.specs.Lexeme.{lexeme_at}
+use Rattle.hpf_lex.specs.OneLine.{OneLine, prefix_text, StandsOn, StandFrom, tokens_from, one_line_text}
 use Rattle.hpf_lex.specs.Statement.{marks, ends_open, past_last, prefix_marks, first_marks, later_marks, later_parts, statements_behind, statements, statement_marks, text_marks}
 use Rattle.hpf_lex.specs.Text.{reading}
+use Rattle.hpf_lex.proofs.Cuts.{is_cut}
 
 abbrev sign : TokenKind → ℕ → ℕ → Token
 sign kind line column = record { kind = kind; word = []; number = 0; line = line; column = column }
@@ -56,3 +61,36 @@ rows_4 : (Reads (codes "::: ") (sign kind.DoubleColon 1 1 ∷ sign kind.Colon 1 
     × (Reads [] ([]))
 unfolding reading text_marks statement_marks statements statements_behind later_parts later_marks first_marks prefix_marks marks ends_open past_last lexeme_at parts_of part_of form_of lines_of is_blank
 rows_4 = (refl, refl, refl, refl, refl)
+
+-- `_` goes on with a word and `/` with a `(`, and `)` and the end go on with nothing
+rows_stops : (goes_on kind.Word 95 ≡ true)
+    × (goes_on kind.LeftParen 47 ≡ true)
+    × (StopsAt kind.Word (codes "(A"))
+    × (StopsAt kind.LeftParen (codes "A/"))
+    × (StopsAt kind.Number [])
+    × (StopsAt kind.DoubleColon (codes ":"))
+rows_stops = (refl, refl, refl, refl, tt, refl)
+
+directive : OneLine
+directive = record { form = Directive; text = codes "SHADOW A"; tokens = word (codes "SHADOW") 1 7 ∷ word (codes "A") 1 14 ∷ [] }
+
+declaration : OneLine
+declaration = record { form = Fortran; text = codes "REAL a"; tokens = word (codes "REAL") 2 1 ∷ word (codes "A") 2 6 ∷ [] }
+
+rows_one_line : (one_line_text (directive ∷ declaration ∷ []) ≡ codes "!HPF$ SHADOW A" ++ 10 ∷ codes "REAL a" ++ 10 ∷ [])
+    × (tokens_from 1 (directive ∷ declaration ∷ []) ≡
+    sign kind.Hpf 1 1 ∷ word (codes "SHADOW") 1 7 ∷ word (codes "A") 1 14 ∷ sign kind.End 1 15
+    ∷ word (codes "REAL") 2 1 ∷ word (codes "A") 2 6 ∷ sign kind.End 2 7 ∷ [])
+unfolding directive declaration
+rows_one_line = (refl, refl)
+
+stands_on : (line : ℕ) (s : OneLine) → Cut line (length (prefix_text s.form) + 1) s.text s.tokens → is_blank (slice_index s.text 0) ≡ false
+    → is_blank (slice_index s.text (length s.text - 1)) ≡ false → (s.text ≡ [] → ⊥) → StandsOn line s
+stands_on line s cut begins ends some = record { cut = cut; begins = begins; ends = ends; some = some }
+
+rows_stand : StandFrom 1 (directive ∷ declaration ∷ [])
+unfolding directive declaration marks lexeme_at is_blank
+rows_stand = (
+  stands_on 1 directive (is_cut 1 7 (codes "SHADOW A") refl) refl refl (λ e. absurd cc),
+  (stands_on 2 declaration (is_cut 2 1 (codes "REAL a") refl) refl refl (λ e. absurd cc), tt),
+)

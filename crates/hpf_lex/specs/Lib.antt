@@ -10,3 +10,5 @@ pub mod Statement
 pub mod Cut
 pub mod Text
 pub mod Scanning
+pub mod Follows
+pub mod OneLine

@@ -1,15 +1,19 @@
 //! Laws of what a text says, each the contract of a function that does nothing.
 
-ghost use Rattle.std.specs.Prelude.{◌≡◌, ◌≤◌, ℕ, List, [], ◌∷◌, ◌⊎◌, length, take, Ok, Err, IsTrue};
+ghost use Rattle.std.specs.Prelude.{◌≡◌, ◌≤◌, ℕ, false, List, [], ◌∷◌, ◌++◌, ◌⊎◌, length, take, Ok, Err, slice_index, IsTrue};
+ghost use Rattle.std.specs.Fmt.{decimal};
 ghost use Rattle.std.specs.List.{AllByRecursion};
 ghost use Rattle.hpf_lex.specs.declared.lexeme.Lexeme.{Lexeme};
 ghost use Rattle.hpf_lex.specs.declared.refusal.Fault.TheVariants.{BadByte};
 ghost use Rattle.hpf_lex.specs.declared.refusal.MapRefusal.{MapRefusal};
 ghost use Rattle.hpf_lex.specs.declared.token.Token.{Token};
 ghost use Rattle.hpf_lex.specs.declared.token.TokenKind.{TokenKind};
-ghost use Rattle.hpf_lex.specs.Lexeme.{lexeme_at};
+ghost use Rattle.hpf_lex.specs.Bytes.{is_blank};
+ghost use Rattle.hpf_lex.specs.Lexeme.{lexeme_at, number_of, max_number};
 ghost use Rattle.hpf_lex.specs.Cut.{Cut};
-ghost use Rattle.hpf_lex.specs.Spelling.{Spells, IsLongest};
+ghost use Rattle.hpf_lex.specs.Follows.{StopsAt, IsProper};
+ghost use Rattle.hpf_lex.specs.OneLine.{OneLine, StandFrom, one_line_text, tokens_from};
+ghost use Rattle.hpf_lex.specs.Spelling.{IsNumeral, Spells, IsLongest, word_of, number_in};
 ghost use Rattle.hpf_lex.specs.Statement.{max_text, marks, text_marks};
 ghost use Rattle.hpf_lex.specs.Text.{HasTokens, HasFault, tokens_of, faults_of, stands_before};
 
@@ -50,4 +54,29 @@ pub fn cut_into_tokens()
         → Cut line column bytes (tokens_of (marks line column 0 bytes)) }
     ensures only { (line column : ℕ) (bytes : List ℕ) (tokens : List Token) → Cut line column bytes tokens
         → (faults_of (marks line column 0 bytes) ≡ []) × (tokens_of (marks line column 0 bytes) ≡ tokens) }
+{}
+
+/// A token is found where it is spelled, and what stands behind doesn't go on with it. Its first byte is no blank.
+pub fn spelled_token()
+    ensures found { (kind : TokenKind) (spelling rest : List ℕ) → Spells kind spelling → StopsAt kind rest
+        → lexeme_at (spelling ++ rest)
+        ≡ Ok (record { kind = kind; word = word_of kind spelling; number = number_in kind spelling; width = length spelling }) }
+    ensures no_blank { (kind : TokenKind) (spelling rest : List ℕ) → Spells kind spelling
+        → is_blank (slice_index (spelling ++ rest) 0) ≡ false }
+{}
+
+/// A number that isn't too great is spelled in decimal.
+pub fn numeral()
+    ensures { (n : ℕ) → n ≤ max_number → IsNumeral (decimal n) × (number_of (decimal n) ≡ n) }
+{}
+
+/// The words of a text's tokens are names in upper case, and its numbers aren't too great.
+pub fn proper_tokens()
+    ensures { (text : List ℕ) (tokens : List Token) → HasTokens text tokens → AllByRecursion IsProper tokens }
+{}
+
+/// A text of statements on one line each has their tokens.
+pub fn one_line_each()
+    ensures { (ss : List OneLine) → StandFrom 1 ss → length (one_line_text ss) ≤ max_text
+        → HasTokens (one_line_text ss) (tokens_from 1 ss) }
 {}

@@ -14,7 +14,10 @@ mod scan;
 mod token;
 mod word;
 
-pub use laws::{cut_into_tokens, first_fault, longest_token, one_reading};
+pub use laws::{
+    cut_into_tokens, first_fault, longest_token, numeral, one_line_each, one_reading,
+    proper_tokens, spelled_token,
+};
 pub use refusal::{Fault, MapError, MapRefusal};
 pub use scan::tokens;
 pub use token::{Token, TokenKind, Tokens};
