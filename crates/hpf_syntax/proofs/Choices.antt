@@ -1,5 +1,5 @@
 -- Single tokens, choices by the next token, and sequences, in the forms in which the grammar has them.
-use Rattle.std.proofs.Common.{◌≡◌, ℕ, Bool, true, false, cond, ◌||◌, ◌&&◌, List, [], ◌∷◌, ◌++◌, Result, Ok, Err, refl, sym, ap, ◌∙◌}
+use Rattle.std.proofs.Common.{◌≡◌, ℕ, Bool, true, false, cond, ◌||◌, ◌&&◌, List, [], ◌∷◌, ◌++◌, Ok, Err, refl, ap, ◌∙◌}
 use Rattle.std.specs.Prelude.{codes}
 use Rattle.hpf_lex.specs.declared.token.Token.{Token}
 use Rattle.hpf_lex.specs.declared.token.TokenKind.{TokenKind}
@@ -8,15 +8,14 @@ use Rattle.hpf_syntax.specs.declared.tree.At.{At}
 use Rattle.hpf_syntax.specs.declared.tree.Spot.{Spot}
 use Rattle.hpf_syntax.specs.declared.terminal.Terminal.{Terminal}
 use Rattle.hpf_syntax.specs.declared.terminal.Terminal.TheVariants as terminal
-use Rattle.hpf_syntax.specs.declared.stop.BadToken.{BadToken}
 use Rattle.hpf_syntax.specs.declared.stop.Fault.TheVariants.{Syntax}
 use Rattle.hpf_syntax.specs.Terminal.{spelling, word_among, word_terminal, kind_terminal, token_terminal, first_terminal, number_of, same, begins, Is}
-use Rattle.hpf_syntax.specs.Reading.{◌>>=◌, Reading, bad_at, rest_of, first_place, take_at}
+use Rattle.hpf_syntax.specs.Reading.{Reading, bad_at, rest_of, first_place, take_at}
 use Rattle.hpf_syntax.specs.Plain.{place}
 use Rattle.hpf_syntax.specs.Rules.{Rule, Then, ◌or◌, Sign, AName}
 use Rattle.hpf_syntax.specs.Statements.{name_at, begins_expression, begins_triplet}
 use Rattle.hpf_syntax.proofs.Terminals.{member, apart, same_refl}
-use Rattle.hpf_syntax.proofs.Laws.{Core, Reads, one_core, then_at, then_reads, joined_first, joined_more, subset, choice_at, choice_reads, reads_alike, OneToken, begins_is, one_reads}
+use Rattle.hpf_syntax.proofs.Laws.{Core, Reads, one_core, then_at, then_reads, joined_first, joined_more, subset, choice_at, choice_reads, reads_alike, begins_is, one_reads}
 use Rattle.hpf_syntax.proofs.ExpressionLaw.{expression_first}
 
 -- ---- a token of each terminal

@@ -1,9 +1,9 @@
 -- Reading counted tokens, up to the first that is beyond the 64th of its expression.
-use Rattle.std.proofs.Common.{◌≡◌, ℕ, zero, suc, ◌+◌, ◌≤◌, ◌<◌, Bool, true, false, cond, leb, List, [], ◌∷◌, ◌++◌, length, map, Result, Ok, Err, refl, sym, ap, ◌∙◌, append_assoc, arith}
+use Rattle.std.proofs.Common.{◌≡◌, ℕ, zero, suc, ◌+◌, ◌≤◌, ◌<◌, Bool, true, false, cond, leb, List, [], ◌∷◌, ◌++◌, Result, Err, refl, ap, ◌∙◌, append_assoc, arith}
 use Rattle.std.proofs.lemmas.Bool.{le-leb, lt-leb}
 use Rattle.hpf_lex.specs.declared.token.Token.{Token}
 use Rattle.hpf_syntax.specs.declared.stop.BadToken.{BadToken}
-use Rattle.hpf_syntax.specs.declared.stop.Fault.TheVariants.{Syntax, LongExpression}
+use Rattle.hpf_syntax.specs.declared.stop.Fault.TheVariants.{LongExpression}
 use Rattle.hpf_syntax.specs.Reading.{◌>>=◌, bad_at}
 use Rattle.hpf_syntax.specs.Rules.{Counted, tokens_of, numbered, IsWithin}
 
@@ -39,6 +39,10 @@ module _ (max : ℕ) where
   pub short_append : (a b : List Counted) → IsWithin max a → IsWithin max b → IsWithin max (a ++ b)
   short_append [] b p q = q
   short_append (c ∷ a) b p q = (p.0, short_append a b p.1 q)
+
+  pub short_parts : (a b : List Counted) → IsWithin max (a ++ b) → IsWithin max a × IsWithin max b
+  short_parts [] b p = (tt, p)
+  short_parts (c ∷ a) b p = let parts = short_parts a b p.1 in ((p.0, parts.0), parts.1)
 
   -- what reading gives where the tokens would give o
   abbrev pub cut : {Y : Type 0} → List Counted → List Token → Result Y BadToken → Result Y BadToken

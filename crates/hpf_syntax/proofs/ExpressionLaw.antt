@@ -1,6 +1,6 @@
 -- The rule of an expression and its reading.
-use Rattle.std.proofs.Common.{◌≡◌, ℕ, zero, suc, ◌+◌, ◌-◌, ◌≤◌, ◌<◌, Bool, true, false, not, ◌&&◌, List, [], ◌∷◌, ◌++◌, length, Option, Some, None, Result, Ok, Err, refl, sym, ap, subst, ◌∙◌, append_assoc, arith, zero-le}
-use Rattle.std.proofs.lemmas.List.{append-nil, length-append}
+use Rattle.std.proofs.Common.{◌≡◌, ℕ, zero, suc, ◌+◌, ◌-◌, ◌≤◌, Bool, true, false, List, [], ◌∷◌, ◌++◌, length, Option, Some, None, Result, Ok, Err, refl, sym, ap, subst, ◌∙◌, append_assoc, arith, zero-le}
+use Rattle.std.proofs.lemmas.List.{append-nil}
 use Rattle.hpf_lex.specs.declared.token.Token.{Token}
 use Rattle.hpf_syntax.specs.declared.terminal.Terminal.{Terminal}
 use Rattle.hpf_syntax.specs.declared.terminal.Terminal.TheVariants as terminal
@@ -8,17 +8,17 @@ use Rattle.hpf_syntax.specs.declared.stop.BadToken.{BadToken}
 use Rattle.hpf_syntax.specs.declared.stop.Fault.{Fault}
 use Rattle.hpf_syntax.specs.declared.stop.Fault.TheVariants.{Syntax, LongExpression}
 use Rattle.hpf_syntax.specs.Terminal.{number_of, same, Is, token_terminal, first_terminal}
-use Rattle.hpf_syntax.specs.Reading.{bad_at, rest_of}
+use Rattle.hpf_syntax.specs.Reading.{bad_at}
 use Rattle.hpf_syntax.specs.Plain.{Tree, Number, place}
-use Rattle.hpf_syntax.specs.Partial.{Before, Standing, Product, Inner, Progress, progress, fresh, joined, takes, step, step_over, value_of, ended, run, expression_at}
-use Rattle.hpf_syntax.specs.Expressions.{Part, Expression, Term, Factor, IsA, number, name, parenthesized, factor, times, term, positive, negative, plus, minus}
+use Rattle.hpf_syntax.specs.Partial.{Before, Product, Inner, Progress, progress, fresh, joined, takes, step, step_over, value_of, ended, run, expression_at}
+use Rattle.hpf_syntax.specs.Expressions.{Part, Expression, IsA, number, name, parenthesized, factor, times, term, positive, negative, plus, minus}
 use Rattle.hpf_syntax.specs.Rules.{Counted, tokens_of, numbered, AnExpression, IsWithin}
-use Rattle.hpf_syntax.proofs.Terminals.{member, same_refl, false_is_not_true}
+use Rattle.hpf_syntax.proofs.Terminals.{member, false_is_not_true}
 use Rattle.hpf_syntax.proofs.Cuts.{tokens_numbered, cut}
 use Rattle.hpf_syntax.proofs.Runs.{run_once, run_is_full, run_stops}
 use Rattle.hpf_syntax.proofs.Laws.{Stops, Over, Says, found, refused, Starts, HasNoEnd, Core, Reads, core_alike}
 use Rattle.hpf_syntax.proofs.Goes.{numbered_append, goes_is, expression_goes}
-use Rattle.hpf_syntax.proofs.Stands.{Stands, StandsAt, stands_fresh, stands_on, finish, value_stands, sample_number, sample_number_is}
+use Rattle.hpf_syntax.proofs.Stands.{StandsAt, stands_fresh, stands_on, finish, value_stands, sample_number, sample_number_is}
 
 -- where an expression is too long, the token that is refused would go on
 abbrev OverBy : ℕ → Fault → List Token → List Token → List Token → Type 0

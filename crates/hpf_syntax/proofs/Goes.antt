@@ -1,18 +1,18 @@
 -- An expression of the grammar is read whole, as far as it has at most 64 tokens.
-use Rattle.std.proofs.Common.{◌≡◌, ℕ, zero, suc, ◌+◌, ◌-◌, ◌≤◌, ◌<◌, Bool, true, false, cond, leb, not, ◌&&◌, List, [], ◌∷◌, ◌++◌, length, Option, Some, None, Result, Ok, Err, refl, sym, ap, subst, ◌∙◌, append_assoc, arith, inl, inr}
+use Rattle.std.proofs.Common.{◌≡◌, ℕ, zero, suc, ◌+◌, ◌-◌, Bool, true, cond, List, [], ◌∷◌, ◌++◌, length, Result, Err, refl, sym, ap, subst, ◌∙◌, append_assoc, arith, inl, inr}
 use Rattle.std.proofs.lemmas.Bool.{cases_lt}
 use Rattle.std.proofs.lemmas.List.{length-append}
 use Rattle.hpf_lex.specs.declared.token.Token.{Token}
 use Rattle.hpf_syntax.specs.declared.terminal.Terminal.{Terminal}
 use Rattle.hpf_syntax.specs.declared.terminal.Terminal.TheVariants as terminal
 use Rattle.hpf_syntax.specs.declared.stop.BadToken.{BadToken}
-use Rattle.hpf_syntax.specs.declared.stop.Fault.TheVariants.{Syntax, LongExpression}
-use Rattle.hpf_syntax.specs.Terminal.{Is, token_terminal, first_terminal}
-use Rattle.hpf_syntax.specs.Reading.{bad_at, rest_of}
+use Rattle.hpf_syntax.specs.declared.stop.Fault.TheVariants.{LongExpression}
+use Rattle.hpf_syntax.specs.Terminal.{Is, first_terminal}
+use Rattle.hpf_syntax.specs.Reading.{bad_at}
 use Rattle.hpf_syntax.specs.Plain.{Tree, place, Plus, Minus}
 use Rattle.hpf_syntax.specs.Partial.{Before, Nothing, Negative, Added, Subtracted, Standing, Start, Operator, Star, Product, Inner, Progress, progress, fresh, joined, multiplied, is_due, takes, step, step_over, run}
-use Rattle.hpf_syntax.specs.Expressions.{Part, Expression, Term, Factor, IsA, number, name, parenthesized, factor, times, term, positive, negative, plus, minus}
-use Rattle.hpf_syntax.specs.Rules.{Counted, tokens_of, numbered}
+use Rattle.hpf_syntax.specs.Expressions.{Expression, Term, Factor, IsA, number, name, parenthesized, factor, times, term, positive, negative, plus, minus}
+use Rattle.hpf_syntax.specs.Rules.{Counted, numbered}
 use Rattle.hpf_syntax.proofs.Cuts.{within_le, within_lt, cut, cut_append, tokens_numbered}
 use Rattle.hpf_syntax.proofs.Runs.{run_once, run_is_full}
 

@@ -1,5 +1,5 @@
 -- Each rule of the grammar and its reading.
-use Rattle.std.proofs.Common.{◌≡◌, Bool, true, false, List, [], ◌∷◌, Option, Some, None, Ok, refl, ℕ}
+use Rattle.std.proofs.Common.{true, false, List, [], ◌∷◌, Option, Some, None, Ok, refl, ℕ}
 use Rattle.hpf_syntax.specs.declared.tree.At.{At}
 use Rattle.hpf_syntax.specs.declared.tree.SourceItem.TheVariants as source
 use Rattle.hpf_syntax.specs.declared.terminal.Terminal.TheVariants as terminal
@@ -9,7 +9,8 @@ use Rattle.hpf_syntax.specs.Partial.{expression_at}
 use Rattle.hpf_syntax.specs.Plain.{Tree, BoundTree, bound_of, One, Many, Star, Block, Cyclic, GenBlock, Indirect, AnyPlace, OnePlace, Triplet, Plain, Add, Mul, Prefix, Stencil, ImplicitNone, Variables, Constants, Processors, Template, Distribute, Align, Shadow, Input, Stage}
 use Rattle.hpf_syntax.specs.Rules.{Done, Then, Sign, ◌or◌, AnExpression}
 use Rattle.hpf_syntax.specs.Statements.{statement_at, align_many_at, align_one_at, argument_at, array_at, attributes_at, behind_dimension_at, bound_at, buffers_at, colon_at, colons_names_at, constant_at, constants_at, dimension_at, directive_at, distribute_many_at, distribute_one_at, format_at, format_width_at, formats_at, fortran_at, input_at, integer_at, line_at, maybe_expression_at, more_dimension_at, name_argument_at, names_at, one_or_many_at, onto_at, operation_at, own_shape_at, permute_at, pipeline_at, shadow_many_at, shadow_one_at, shape_at, shaped_at, skip_colons_at, source_at, sources_at, stage_at, stencil_at, sub_at, subs_at, triplet_at, value_at, variable_at, variables_at, width_at, widths_at}
-use Rattle.hpf_syntax.specs.Grammar.{ALine, ABound, AConstant, ADimension, ADirective, AFormat, ANameArgument, APipeline, AShape, AShaped, ASource, AStage, AStatement, AStencil, ASub, ATriplet, AValue, AVariable, AWidth, AfterColon, AlignMany, AlignOne, AnArgument, AnArray, AnInput, Attributes, BehindDimension, BehindInteger, Buffers, DistributeMany, DistributeOne, Enclosed, FormatWidth, Formats, Fortran, MaybeColons, MaybeExpression, MoreDimension, Names, NamesBehind, Onto, Operation, OwnShape, Permute, ShadowMany, ShadowOne, SomeConstants, SomeVariables, Sources, Subs, Widths}
+use Rattle.hpf_syntax.specs.Grammar.{ABound, ADimension, AFormat, ANameArgument, APipeline, AShape, AShaped, ASource, AStage, AStencil, AVariable, AWidth, AfterColon, AnArgument, AnArray, AnInput, Buffers, DistributeMany, DistributeOne, Enclosed, FormatWidth, Formats, MaybeColons, MaybeExpression, Names, NamesBehind, Onto, Operation, OwnShape, Permute, ShadowMany, ShadowOne, SomeVariables, Sources, Widths}
+use Rattle.hpf_syntax.specs.InOrder.{AConstant, ADirective, ALine, AStatement, ASub, ATriplet, AValue, AlignMany, AlignOne, Attributes, BehindDimension, BehindInteger, ColonsConstants, Fortran, MoreDimension, Subs}
 use Rattle.hpf_syntax.proofs.Laws.{Core, Reads, done_reads, then_core, then_at}
 use Rattle.hpf_syntax.proofs.ExpressionLaw.{expression_first, expression_reads}
 use Rattle.hpf_syntax.proofs.Separated.{separated_reads}
@@ -76,7 +77,7 @@ module _ (max : ℕ) where
   unfolding variables_at same number_of
   variables_reads common = and_then max (separated_reads max _ _ _ _ variable_reads refl) (λ names. done_reads max (Variables common names)) refl
 
-  constants_reads : (common : List BoundTree) → Reads max (SomeConstants common) (constants_at max common) (terminal.DoubleColon ∷ []) (terminal.Plus ∷ terminal.Minus ∷ terminal.Star ∷ terminal.Comma ∷ terminal.Plus ∷ terminal.Minus ∷ terminal.Star ∷ []) false
+  constants_reads : (common : List BoundTree) → Reads max (ColonsConstants common) (constants_at max common) (terminal.DoubleColon ∷ []) (terminal.Plus ∷ terminal.Minus ∷ terminal.Star ∷ terminal.Comma ∷ terminal.Plus ∷ terminal.Minus ∷ terminal.Star ∷ []) false
   unfolding constants_at same number_of
   constants_reads common = and_then max (sign max terminal.DoubleColon refl refl) (λ colons. and_then max (separated_reads max _ _ _ _ constant_reads refl) (λ names. done_reads max (Constants common names)) refl) refl
 

@@ -1,7 +1,5 @@
 -- What holds of a rule and of its reading, and how it follows for rules that are made of others.
-use Rattle.std.proofs.Common.{◌≡◌, ℕ, suc, ◌+◌, ◌≤◌, Bool, true, false, cond, ◌||◌, ◌&&◌, List, [], ◌∷◌, ◌++◌, length, map, Result, Ok, Err, refl, sym, ap, subst, ◌∙◌, append_assoc, arith, inl, inr, zero-le}
-use Rattle.std.specs.Prelude.{◌⊎◌}
-use Rattle.std.proofs.lemmas.List.{append-nil}
+use Rattle.std.proofs.Common.{◌≡◌, ℕ, ◌+◌, Bool, true, false, cond, ◌||◌, ◌&&◌, List, [], ◌∷◌, ◌++◌, Result, Ok, Err, refl, sym, ap, subst, ◌∙◌, append_assoc, inl, inr, zero-le}
 use Rattle.hpf_lex.specs.declared.token.Token.{Token}
 use Rattle.hpf_syntax.specs.declared.terminal.Terminal.{Terminal}
 use Rattle.hpf_syntax.specs.declared.terminal.Terminal.TheVariants as terminal
@@ -9,10 +7,10 @@ use Rattle.hpf_syntax.specs.declared.stop.BadToken.{BadToken}
 use Rattle.hpf_syntax.specs.declared.stop.Fault.{Fault}
 use Rattle.hpf_syntax.specs.declared.stop.Fault.TheVariants.{Syntax, LongExpression}
 use Rattle.hpf_syntax.specs.Terminal.{same, token_terminal, first_terminal, begins, Is}
-use Rattle.hpf_syntax.specs.Reading.{◌>>=◌, Reading, bad_at, rest_of, take_at}
+use Rattle.hpf_syntax.specs.Reading.{◌>>=◌, Reading, bad_at}
 use Rattle.hpf_syntax.specs.Rules.{Counted, outside, tokens_of, Rule, Done, Then, ◌or◌, IsWithin}
 use Rattle.hpf_syntax.proofs.Terminals.{member, apart, apart_member, member_append, same_true, same_refl, false_is_not_true, or_false, or_true, both_true}
-use Rattle.hpf_syntax.proofs.Cuts.{tokens_append, tokens_append_rest, short_append, cut, cut_append, cut_bind, cut_short}
+use Rattle.hpf_syntax.proofs.Cuts.{tokens_append_rest, short_append, cut, cut_append, cut_bind}
 
 -- the first of these tokens is none of the terminals
 abbrev pub Stops : List Terminal → List Token → Type 0

@@ -1,15 +1,15 @@
 -- A list of tokens has one first fault at most.
-use Rattle.std.proofs.Common.{◌≡◌, List, [], ◌∷◌, ◌++◌, refl, sym, ap, subst, ◌∙◌, append_assoc, inl, inr}
+use Rattle.std.proofs.Common.{◌≡◌, List, [], ◌∷◌, ◌++◌, refl, sym, ap, subst, ◌∙◌, append_assoc, append-nil, inl, inr}
 use Rattle.std.specs.Prelude.{◌⊎◌}
 use Rattle.hpf_lex.specs.declared.token.Token.{Token}
 use Rattle.hpf_lex.specs.declared.refusal.MapRefusal.{MapRefusal}
 use Rattle.hpf_syntax.specs.declared.stop.Fault.{Fault}
 use Rattle.hpf_syntax.specs.declared.stop.Fault.TheVariants.{Syntax, LongExpression}
-use Rattle.hpf_syntax.specs.Plain.{ItemTree}
 use Rattle.hpf_syntax.specs.Rules.{Counted, tokens_of, IsShort}
+use Rattle.hpf_syntax.specs.Plain.{ItemTree}
 use Rattle.hpf_syntax.specs.Grammar.{IsText}
-use Rattle.hpf_syntax.specs.FirstFault.{BeginsText, BeginsShortly, IsBeyond, Faults, IsFirstFault, code_of, IsRefusalOf}
-use Rattle.hpf_syntax.proofs.Cuts.{tokens_append}
+use Rattle.hpf_syntax.specs.FirstFault.{SpellsShortly, BeginsText, BeginsShortly, IsBeyond, Faults, code_of, IsRefusalOf}
+use Rattle.hpf_syntax.proofs.Cuts.{tokens_append, short_parts}
 
 -- counted tokens, cut where their tokens are
 cut_at : (a b : List Token) (front : List Counted) → tokens_of front ≡ a ++ b → (f : List Counted) × (g : List Counted) × (front ≡ f ++ g) × (tokens_of f ≡ a)
@@ -21,14 +21,10 @@ cut_at (t ∷ a) b (c ∷ front) e =
     let rest = cut_at a b front tail in
     (c ∷ rest.0, rest.1, ap (λ (cs : List Counted). c ∷ cs) rest.2, ap (λ (ts : List Token). c.token ∷ ts) rest.3 ∙ ap (λ (u : Token). u ∷ a) head)
 
-short_front : (f g : List Counted) → IsShort (f ++ g) → IsShort f
-short_front [] g h = tt
-short_front (c ∷ f) g h = (h.0, short_front f g h.1)
-
 begins_front : (a b : List Token) → BeginsShortly (a ++ b) → BeginsShortly a
 begins_front a b (front, ahead, items, p, e, short) =
     let (f, g, q, r) = cut_at a b front e in
-    (f, g ++ ahead, items, subst (λ (cs : List Counted). IsText cs items) (ap (λ (cs : List Counted). cs ++ ahead) q ∙ append_assoc f g ahead) p, r, short_front f g (subst IsShort q short))
+    (f, g ++ ahead, items, subst (λ (cs : List Counted). IsText cs items) (ap (λ (cs : List Counted). cs ++ ahead) q ∙ append_assoc f g ahead) p, r, (short_parts 64 f g (subst IsShort q short)).0)
 
 -- two places in one list are one place, or one is behind the other
 places : (a b : List Token) (x y : Token) (c d : List Token) → a ++ x ∷ c ≡ b ++ y ∷ d → ((a ≡ b) × (x ≡ y)) ⊎ (((z : List Token) × (b ≡ (a ++ x ∷ []) ++ z)) ⊎ ((z : List Token) × (a ≡ (b ++ y ∷ []) ++ z)))
@@ -74,3 +70,10 @@ one_refusal tokens r s (f, a, x, c, e, first, is) (g, b, y, d, e2, second, is2) 
       | inr (inl (z, p)) ↦ absurd (first.not_on (begins_front (a ++ x ∷ []) z (subst BeginsShortly p second.so_far)))
       | inr (inr (z, p)) ↦ absurd (second.not_on (begins_front (b ++ y ∷ []) z (subst BeginsShortly p first.so_far)))
     ]
+
+-- tokens that are a text have no first fault
+pub no_fault : (tokens : List Token) (items : List ItemTree) (r : MapRefusal) → SpellsShortly tokens items → IsRefusalOf tokens r → ⊥
+no_fault tokens items r (cs, p, e, short) (fault, before, bad, after, is, first, _) =
+    let whole : tokens_of cs ++ [] ≡ (before ++ bad ∷ []) ++ after = append-nil (tokens_of cs) ∙ (e ∙ (is ∙ sym (append_assoc before (bad ∷ []) after))) in
+    let spelled : BeginsShortly (tokens_of cs) = (cs, [], items, subst (λ (ds : List Counted). IsText ds items) (sym (append-nil cs)) p, refl, short) in
+    first.not_on (begins_front (before ++ bad ∷ []) after (subst BeginsShortly (sym (append-nil (tokens_of cs)) ∙ whole) spelled))

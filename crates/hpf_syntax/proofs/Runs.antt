@@ -1,8 +1,8 @@
 -- Reading an expression one token after the other, as a loop does.
-use Rattle.std.proofs.Common.{◌≡◌, ℕ, zero, suc, ◌-◌, ◌<◌, ◌≤◌, Bool, true, false, List, [], Option, Some, None, Result, Ok, Err, refl, sym, ap, ◌∙◌, arith}
+use Rattle.std.proofs.Common.{◌≡◌, ℕ, zero, suc, ◌-◌, ◌<◌, true, false, List, [], Result, Err, refl, sym, ap, ◌∙◌, arith}
 use Rattle.hpf_lex.specs.declared.token.Token.{Token}
 use Rattle.hpf_syntax.specs.declared.stop.BadToken.{BadToken}
-use Rattle.hpf_syntax.specs.declared.stop.Fault.TheVariants.{Syntax, LongExpression}
+use Rattle.hpf_syntax.specs.declared.stop.Fault.TheVariants.{LongExpression}
 use Rattle.hpf_syntax.specs.Terminal.{first_terminal}
 use Rattle.hpf_syntax.specs.Reading.{bad_at, rest_of}
 use Rattle.hpf_syntax.specs.Plain.{Tree}

@@ -1,17 +1,17 @@
 -- Lists with commas between their elements.
-use Rattle.std.proofs.Common.{◌≡◌, ℕ, zero, suc, ◌+◌, ◌≤◌, Bool, true, false, cond, ◌||◌, List, [], ◌∷◌, ◌++◌, length, Result, Ok, Err, refl, sym, ap, subst, ◌∙◌, append_assoc, arith}
+use Rattle.std.proofs.Common.{◌≡◌, ℕ, zero, suc, ◌≤◌, Bool, true, false, ◌||◌, List, [], ◌∷◌, ◌++◌, length, Result, Ok, Err, refl, sym, ap, subst, ◌∙◌, append_assoc, arith}
 use Rattle.std.proofs.lemmas.List.{append-nil, length-append}
 use Rattle.hpf_lex.specs.declared.token.Token.{Token}
 use Rattle.hpf_syntax.specs.declared.terminal.Terminal.{Terminal}
 use Rattle.hpf_syntax.specs.declared.terminal.Terminal.TheVariants as terminal
 use Rattle.hpf_syntax.specs.declared.stop.BadToken.{BadToken}
 use Rattle.hpf_syntax.specs.Terminal.{number_of, same, token_terminal, first_terminal, begins, Is}
-use Rattle.hpf_syntax.specs.Reading.{◌>>=◌, Reading, rest_of, more_at, separated_at}
+use Rattle.hpf_syntax.specs.Reading.{◌>>=◌, Reading, more_at, separated_at}
 use Rattle.hpf_syntax.specs.Rules.{Counted, outside, tokens_of, Rule, Then, More, Separated}
-use Rattle.hpf_syntax.proofs.Terminals.{member, apart, same_refl, same_true, false_is_not_true, or_false, member_append}
+use Rattle.hpf_syntax.proofs.Terminals.{member, apart, same_true, false_is_not_true, or_false, member_append}
 use Rattle.hpf_syntax.proofs.Cuts.{tokens_append_rest, cut, cut_append, cut_bind}
 use Rattle.hpf_syntax.proofs.Lists.{more_once, more_stops}
-use Rattle.hpf_syntax.proofs.Laws.{Stops, Says, found, refused, Starts, HasNoEnd, Reads, leads, no_end_append, then_at, then_says, then_reads, begins_is, joined_first, joined_more, front_says, reads_as, reads_alike, first_terminal-cons}
+use Rattle.hpf_syntax.proofs.Laws.{Stops, Says, found, refused, Starts, HasNoEnd, Reads, leads, no_end_append, then_at, then_says, then_reads, begins_is, front_says, reads_as, reads_alike}
 
 -- more elements behind those of a list
 abbrev pub MoreFrom : {A : Type 0} → Rule A → List A → Rule (List A)

@@ -1,14 +1,14 @@
 -- What has been read of an expression is the beginning of one.
-use Rattle.std.proofs.Common.{◌≡◌, ℕ, zero, suc, ◌+◌, ◌≤◌, Bool, true, false, not, ◌&&◌, List, [], ◌∷◌, ◌++◌, length, Option, Some, None, refl, sym, ap, subst, ◌∙◌, append_assoc}
+use Rattle.std.proofs.Common.{◌≡◌, Bool, true, false, not, ◌&&◌, List, [], ◌∷◌, ◌++◌, Option, Some, None, refl, sym, ap, subst, ◌∙◌, append_assoc}
 use Rattle.std.proofs.lemmas.List.{append-nil}
 use Rattle.hpf_lex.specs.declared.token.Token.{Token}
 use Rattle.hpf_lex.specs.declared.token.TokenKind.TheVariants as kind
 use Rattle.hpf_syntax.specs.declared.terminal.Terminal.{Terminal}
 use Rattle.hpf_syntax.specs.declared.terminal.Terminal.TheVariants as terminal
 use Rattle.hpf_syntax.specs.Terminal.{Is, token_terminal, kind_terminal}
-use Rattle.hpf_syntax.specs.Plain.{Tree, place, Plus, Minus, Times, Neg, Number, Name}
-use Rattle.hpf_syntax.specs.Partial.{Before, Nothing, Negative, Added, Subtracted, Standing, Start, Operator, Star, Product, Inner, Progress, progress, fresh, joined, multiplied, is_due, is_open, takes, takes_sign, step_over, whole, value_of}
-use Rattle.hpf_syntax.specs.Expressions.{Part, Expression, Term, Factor, IsA, number, name, parenthesized, factor, times, term, positive, negative, plus, minus}
+use Rattle.hpf_syntax.specs.Plain.{Tree, place, Times}
+use Rattle.hpf_syntax.specs.Partial.{Before, Nothing, Negative, Added, Subtracted, Standing, Start, Operator, Star, Product, Inner, Progress, progress, fresh, joined, multiplied, is_due, is_open, takes, step_over, whole}
+use Rattle.hpf_syntax.specs.Expressions.{Expression, Term, Factor, IsA, number, name, parenthesized, factor, times, term, positive, negative, plus, minus}
 use Rattle.hpf_syntax.proofs.Terminals.{false_is_not_true}
 
 -- what stands before a term

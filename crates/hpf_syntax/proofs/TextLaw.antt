@@ -1,21 +1,19 @@
 -- A whole text and its reading.
-use Rattle.std.proofs.Common.{◌≡◌, ℕ, zero, suc, ◌+◌, ◌≤◌, ◌<◌, Bool, true, false, List, [], ◌∷◌, ◌++◌, length, Result, Ok, Err, refl, sym, ap, subst, ◌∙◌, append_assoc, arith}
+use Rattle.std.proofs.Common.{◌≡◌, ℕ, zero, suc, ◌≤◌, ◌<◌, List, [], ◌∷◌, ◌++◌, length, Result, Ok, Err, refl, sym, ap, subst, ◌∙◌, append_assoc, arith}
 use Rattle.std.proofs.lemmas.List.{append-nil, length-append}
 use Rattle.hpf_lex.specs.declared.token.Token.{Token}
-use Rattle.hpf_syntax.specs.declared.terminal.Terminal.TheVariants as terminal
 use Rattle.hpf_syntax.specs.declared.stop.BadToken.{BadToken}
 use Rattle.hpf_syntax.specs.declared.stop.Fault.{Fault}
-use Rattle.hpf_syntax.specs.Terminal.{same, number_of, first_terminal}
-use Rattle.hpf_syntax.specs.Reading.{◌>>=◌, bad_at, take_at}
+use Rattle.hpf_syntax.specs.Terminal.{first_terminal}
+use Rattle.hpf_syntax.specs.Reading.{◌>>=◌, bad_at}
 use Rattle.hpf_syntax.specs.Plain.{ItemTree}
 use Rattle.hpf_syntax.specs.Statements.{statement_at, statements_at, text_at}
-use Rattle.hpf_syntax.specs.Rules.{Counted, tokens_of, Done, Then, Sign, IsWithin}
-use Rattle.hpf_syntax.specs.Grammar.{ALine, AStatement, IsText}
+use Rattle.hpf_syntax.specs.Rules.{Counted, tokens_of, IsWithin}
+use Rattle.hpf_syntax.specs.InOrder.{ALine, IsText}
 use Rattle.hpf_syntax.proofs.Terminals.{false_is_not_true}
 use Rattle.hpf_syntax.proofs.Cuts.{tokens_append, tokens_append_rest, short_append, cut, cut_append, cut_bind}
-use Rattle.hpf_syntax.proofs.Laws.{Core, Over, Says, found, refused, Starts, Stops, Stable, Dead, then_core, then_at, done_reads, core_alike, same_first, first_is}
-use Rattle.hpf_syntax.proofs.Choices.{sign_core}
-use Rattle.hpf_syntax.proofs.Instances.{statement_reads, line_core}
+use Rattle.hpf_syntax.proofs.Laws.{Over, Says, found, refused, Stable, same_first, first_is}
+use Rattle.hpf_syntax.proofs.Instances.{line_core}
 use Rattle.hpf_syntax.proofs.Texts.{statements_once}
 
 -- ---- a text of the grammar is read whole

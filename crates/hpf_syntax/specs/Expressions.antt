@@ -1,6 +1,6 @@
 -- The grammar of expressions: which tokens are an expression, and which tree it is. A sign `+` before a term and
 -- parentheses leave no trace, and terms and factors group from the left (this project defines it, after Fortran).
-use Rattle.std.specs.Prelude.{◌≡◌, List, [], ◌∷◌, ◌++◌}
+use Rattle.std.specs.Prelude.{List, [], ◌∷◌, ◌++◌}
 use Rattle.hpf_lex.specs.declared.token.Token.{Token}
 use Rattle.hpf_syntax.specs.declared.terminal.Terminal.TheVariants as terminal
 use Rattle.hpf_syntax.specs.Terminal.{Is}

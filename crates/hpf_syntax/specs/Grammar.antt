@@ -1,6 +1,6 @@
 -- The grammar of mapping texts (this project defines it, after Fortran 90 and High Performance Fortran 2.0).
 -- `Sign t` is the token t, `Separated R` is `R { "," R }`, `or` is a choice, and `Done x` is nothing, with the value x.
--- What several alternatives begin with stands once, in front of them.
+-- The rules and their alternatives stand as in the published grammar, and alternatives in its order.
 use Rattle.std.specs.Prelude.{◌≡◌, List, [], ◌∷◌, ◌++◌, Option, Some, None}
 use Rattle.hpf_syntax.specs.declared.tree.At.{At}
 use Rattle.hpf_syntax.specs.declared.tree.Spot.{Spot}
@@ -9,7 +9,7 @@ use Rattle.hpf_syntax.specs.declared.tree.SourceItem.TheVariants as source
 use Rattle.hpf_syntax.specs.declared.terminal.Terminal.{Terminal}
 use Rattle.hpf_syntax.specs.declared.terminal.Terminal.TheVariants as terminal
 use Rattle.hpf_syntax.specs.Plain.{Tree, BoundTree, bound_of, DeclaredTree, ValueTree, One, Many, ConstantTree, FormatTree, Star, Block, Cyclic, GenBlock, Indirect, SubTree, AnyPlace, OnePlace, Triplet, WidthTree, OpTree, Plain, Add, Mul, Prefix, Stencil, ItemTree, ImplicitNone, Variables, Constants, Processors, Template, Distribute, Align, Shadow, Input, Stage}
-use Rattle.hpf_syntax.specs.Rules.{Counted, Rule, Done, Then, ◌>>=◌, ◌or◌, Sign, AName, AnExpression, Separated}
+use Rattle.hpf_syntax.specs.Rules.{Counted, Rule, Done, ◌>>=◌, ◌or◌, Sign, AName, AnExpression, Separated}
 
 -- ---- pieces
 
@@ -86,7 +86,7 @@ AnArray = Enclosed terminal.LeftArray terminal.RightArray AnExpression
 
 -- value = expr | array
 abbrev pub AValue : Rule ValueTree
-AValue = (AnArray >>= λ list. Done (Many list)) or (AnExpression >>= λ e. Done (One e))
+AValue = (AnExpression >>= λ e. Done (One e)) or (AnArray >>= λ list. Done (Many list))
 
 -- constant = name [ "(" shape ")" ] "=" value
 abbrev pub AConstant : Rule ConstantTree
@@ -105,42 +105,28 @@ ADimension = Sign terminal.Dimension >>= λ at. AShape
 abbrev pub SomeVariables : List BoundTree → Rule ItemTree
 SomeVariables common = Separated AVariable >>= λ names. Done (Variables common names)
 
--- "::" constants
+-- constants
 abbrev pub SomeConstants : List BoundTree → Rule ItemTree
-SomeConstants common = do
-  colons ← Sign terminal.DoubleColon
-  names ← Separated AConstant
-  Done (Constants common names)
-
--- behind a dimension: "," "PARAMETER" "::" constants | "::" variables
-abbrev pub BehindDimension : List BoundTree → Rule ItemTree
-BehindDimension common =
-    (Sign terminal.Comma >>= λ comma. Sign terminal.Parameter >>= λ at. SomeConstants common)
-    or (Sign terminal.DoubleColon >>= λ colons. SomeVariables common)
-
--- [ "," dimension ]
-abbrev pub MoreDimension : Rule (List BoundTree)
-MoreDimension = (Sign terminal.Comma >>= λ comma. ADimension) or Done []
-
--- behind "INTEGER" ",": dimension .. | "PARAMETER" [ "," dimension ] "::" constants
-abbrev pub Attributes : Rule ItemTree
-Attributes =
-    (ADimension >>= λ common. BehindDimension common)
-    or (Sign terminal.Parameter >>= λ at. MoreDimension >>= λ common. SomeConstants common)
+SomeConstants common = Separated AConstant >>= λ names. Done (Constants common names)
 
 -- [ "::" ]
 abbrev pub MaybeColons : Rule (Unit {0})
 MaybeColons = (Sign terminal.DoubleColon >>= λ colons. Done tt) or Done tt
 
--- behind "INTEGER": "," .. | [ "::" ] variables
-abbrev pub BehindInteger : Rule ItemTree
-BehindInteger = (Sign terminal.Comma >>= λ comma. Attributes) or (MaybeColons >>= λ colons. SomeVariables [])
-
--- fortran = "IMPLICIT" "NONE" | "INTEGER" ..
+-- fortran = "IMPLICIT" "NONE"
+--         | "INTEGER" [ "::" ] variables
+--         | "INTEGER" "," dimension "::" variables
+--         | "INTEGER" "," "PARAMETER" "::" constants
+--         | "INTEGER" "," "PARAMETER" "," dimension "::" constants
+--         | "INTEGER" "," dimension "," "PARAMETER" "::" constants
 abbrev pub Fortran : Rule ItemTree
 Fortran =
     (Sign terminal.Implicit >>= λ at. Sign terminal.NoneWord >>= λ none. Done (ImplicitNone at))
-    or (Sign terminal.Integer >>= λ at. BehindInteger)
+    or ((Sign terminal.Integer >>= λ at. MaybeColons >>= λ colons. SomeVariables [])
+    or ((Sign terminal.Integer >>= λ at. Sign terminal.Comma >>= λ comma. ADimension >>= λ common. Sign terminal.DoubleColon >>= λ colons. SomeVariables common)
+    or ((Sign terminal.Integer >>= λ at. Sign terminal.Comma >>= λ comma. Sign terminal.Parameter >>= λ word. Sign terminal.DoubleColon >>= λ colons. SomeConstants [])
+    or ((Sign terminal.Integer >>= λ at. Sign terminal.Comma >>= λ comma. Sign terminal.Parameter >>= λ word. Sign terminal.Comma >>= λ other. ADimension >>= λ common. Sign terminal.DoubleColon >>= λ colons. SomeConstants common)
+    or (Sign terminal.Integer >>= λ at. Sign terminal.Comma >>= λ comma. ADimension >>= λ common. Sign terminal.Comma >>= λ other. Sign terminal.Parameter >>= λ word. Sign terminal.DoubleColon >>= λ colons. SomeConstants common)))))
 
 -- ---- directives
 
@@ -195,17 +181,16 @@ Sources = (Enclosed terminal.LeftParen terminal.RightParen ASource >>= λ list. 
 abbrev pub MaybeExpression : Rule (Option Tree)
 MaybeExpression = (AnExpression >>= λ e. Done (Some e)) or Done None
 
--- the rest of a triplet, from its first colon on: "::" expr | ":" [ expr ] [ ":" expr ]
-abbrev pub ATriplet : Option Tree → Rule SubTree
-ATriplet low =
-    (Sign terminal.DoubleColon >>= λ at. AnExpression >>= λ step. Done (Triplet at low None (Some step)))
-    or (Sign terminal.Colon >>= λ at. MaybeExpression >>= λ high. AfterColon >>= λ step. Done (Triplet at low high step))
+-- triplet = [ expr ] ":" [ expr ] [ ":" expr ]
+--         | [ expr ] "::" expr
+abbrev pub ATriplet : Rule SubTree
+ATriplet =
+    (MaybeExpression >>= λ low. Sign terminal.Colon >>= λ at. MaybeExpression >>= λ high. AfterColon >>= λ step. Done (Triplet at low high step))
+    or (MaybeExpression >>= λ low. Sign terminal.DoubleColon >>= λ at. AnExpression >>= λ step. Done (Triplet at low None (Some step)))
 
--- sub = "*" | expr | triplet, where a triplet may begin with an expression
+-- sub = "*" | expr | triplet
 abbrev pub ASub : Rule SubTree
-ASub =
-    (Sign terminal.Star >>= λ at. Done (AnyPlace at))
-    or (ATriplet None or (AnExpression >>= λ e. ATriplet (Some e) or Done (OnePlace e)))
+ASub = (Sign terminal.Star >>= λ at. Done (AnyPlace at)) or ((AnExpression >>= λ e. Done (OnePlace e)) or ATriplet)
 
 -- [ "(" subs ")" ]
 abbrev pub Subs : Rule (Option (List SubTree))
@@ -256,14 +241,24 @@ ShadowMany = do
   names ← NamesBehind
   Done (Shadow names widths)
 
--- directive = "PROCESSORS" .. | "TEMPLATE" .. | "DISTRIBUTE" .. | "ALIGN" .. | "SHADOW" ..
+-- directive = "PROCESSORS" shaped { "," shaped }
+--           | "TEMPLATE" shaped { "," shaped }
+--           | "DISTRIBUTE" name "(" formats ")" [ "ONTO" name ]
+--           | "DISTRIBUTE" "(" formats ")" [ "ONTO" name ] "::" names
+--           | "ALIGN" name [ "(" sources ")" ] "WITH" name [ "(" subs ")" ]
+--           | "ALIGN" [ "(" sources ")" ] "WITH" name [ "(" subs ")" ] "::" names
+--           | "SHADOW" name "(" widths ")"
+--           | "SHADOW" "(" widths ")" "::" names
 abbrev pub ADirective : Rule ItemTree
 ADirective =
     (Sign terminal.Processors >>= λ at. Separated AShaped >>= λ names. Done (Processors names))
     or ((Sign terminal.Template >>= λ at. Separated AShaped >>= λ names. Done (Template names))
-    or ((Sign terminal.Distribute >>= λ at. DistributeOne or DistributeMany)
-    or ((Sign terminal.Align >>= λ at. AlignOne or AlignMany)
-    or (Sign terminal.Shadow >>= λ at. ShadowOne or ShadowMany))))
+    or ((Sign terminal.Distribute >>= λ at. DistributeOne)
+    or ((Sign terminal.Distribute >>= λ at. DistributeMany)
+    or ((Sign terminal.Align >>= λ at. AlignOne)
+    or ((Sign terminal.Align >>= λ at. AlignMany)
+    or ((Sign terminal.Shadow >>= λ at. ShadowOne)
+    or (Sign terminal.Shadow >>= λ at. ShadowMany)))))))
 
 -- ---- pipelines
 
@@ -320,7 +315,7 @@ APipeline = (Sign terminal.Input >>= λ at. AnInput at) or (Sign terminal.Stage 
 
 -- statement = fortran | Hpf directive | Pipe pipeline
 abbrev pub AStatement : Rule ItemTree
-AStatement = (Sign terminal.Hpf >>= λ at. ADirective) or ((Sign terminal.Pipe >>= λ at. APipeline) or Fortran)
+AStatement = Fortran or ((Sign terminal.Hpf >>= λ at. ADirective) or (Sign terminal.Pipe >>= λ at. APipeline))
 
 -- statement End
 abbrev pub ALine : Rule ItemTree

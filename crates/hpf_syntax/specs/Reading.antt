@@ -1,8 +1,8 @@
 -- Reading from left to right, one token ahead, up to the first token that is refused.
-use Rattle.std.specs.Prelude.{◌≡◌, ℕ, zero, suc, List, [], ◌∷◌, ◌++◌, length, Option, Some, None, Result, Ok, Err, Bool, if◌then◌else◌}
+use Rattle.std.specs.Prelude.{◌≡◌, ℕ, zero, suc, List, [], ◌∷◌, ◌++◌, length, Result, Ok, Err, if◌then◌else◌}
 use Rattle.hpf_lex.specs.declared.token.Token.{Token}
 use Rattle.hpf_syntax.specs.declared.stop.Fault.{Fault}
-use Rattle.hpf_syntax.specs.declared.stop.Fault.TheVariants.{Syntax, LongExpression}
+use Rattle.hpf_syntax.specs.declared.stop.Fault.TheVariants.{Syntax}
 use Rattle.hpf_syntax.specs.declared.stop.BadToken.{BadToken}
 use Rattle.hpf_syntax.specs.declared.stop.Stop.{Stop}
 use Rattle.hpf_syntax.specs.declared.stop.Stop.TheVariants as stop

@@ -1,11 +1,10 @@
 -- What is answered to a text that is refused.
-use Rattle.std.specs.Prelude.{◌≡◌, ℕ, ◌-◌, List, length, drop, Result, Ok, Err, map}
+use Rattle.std.specs.Prelude.{◌≡◌, ◌-◌, List, length, drop, Result, Ok, Err, map}
 use Rattle.hpf_lex.specs.declared.token.Token.{Token}
 use Rattle.hpf_lex.specs.declared.refusal.MapRefusal.{MapRefusal}
 use Rattle.hpf_lex.specs.declared.refusal.MapError.{MapError}
 use Rattle.hpf_lex.specs.declared.refusal.MapError.TheVariants as answer
 use Rattle.hpf_syntax.specs.declared.stop.Fault.{Fault}
-use Rattle.hpf_syntax.specs.declared.stop.Fault.TheVariants.{Syntax, LongExpression}
 use Rattle.hpf_syntax.specs.declared.stop.BadToken.{BadToken}
 use Rattle.hpf_syntax.specs.Plain.{ItemTree, item_tree}
 use Rattle.hpf_syntax.specs.declared.tree.Item.{Item}
@@ -36,3 +35,9 @@ abbrev pub IsRead : Result (List Item) MapError → List ItemTree → Type 0
 IsRead (Ok items) trees = map item_tree items ≡ trees
 IsRead (Err (answer.Refused r)) trees = ⊥
 IsRead (Err (answer.Memory e)) trees = Unit {0}
+
+-- the result is this refusal, unless memory ran out
+abbrev pub IsRefused : Result (List Item) MapError → MapRefusal → Type 0
+IsRefused (Ok items) r = ⊥
+IsRefused (Err (answer.Refused s)) r = s ≡ r
+IsRefused (Err (answer.Memory e)) r = Unit {0}

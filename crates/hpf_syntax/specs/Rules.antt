@@ -1,5 +1,5 @@
 -- Rules of a grammar, each with the value that it gives to the tokens it takes.
-use Rattle.std.specs.Prelude.{◌≡◌, ℕ, ◌+◌, ◌≤◌, ◌⊎◌, List, [], ◌∷◌, ◌++◌, map, Option, Some, None}
+use Rattle.std.specs.Prelude.{◌≡◌, ℕ, ◌+◌, ◌≤◌, ◌⊎◌, List, [], ◌∷◌, ◌++◌, map}
 use Rattle.std.specs.List.{AllByRecursion}
 use Rattle.hpf_lex.specs.declared.token.Token.{Token}
 use Rattle.hpf_syntax.specs.declared.tree.At.{At}

@@ -1,11 +1,12 @@
 //! From tokens to statements.
 
 ghost use Rattle.std.specs.Prelude.{◌≡◌, List, map, IfOk};
+ghost use Rattle.hpf_lex.specs.declared.refusal.MapRefusal.{MapRefusal};
 ghost use Rattle.hpf_syntax.specs.Plain.{ItemTree, item_tree};
 ghost use Rattle.hpf_syntax.specs.Partial.{max_expression};
 ghost use Rattle.hpf_syntax.specs.Reading.{Gives};
 ghost use Rattle.hpf_syntax.specs.Statements.{line_at, statement_at, statements_at, text_at};
-ghost use Rattle.hpf_syntax.specs.Refusal.{refusal_of, Refuses, IfRefused, IsRead};
+ghost use Rattle.hpf_syntax.specs.Refusal.{refusal_of, Refuses, IfRefused, IsRead, IsRefused};
 ghost use Rattle.hpf_syntax.specs.FirstFault.{code_of, SpellsShortly, IsRefusalOf};
 
 use crate::declare::fortran;
@@ -105,6 +106,8 @@ pub fn parse(alloc: Global, tokens: &Tokens) -> Result<Items, MapError>
     ensures only { (trees : List ItemTree) → SpellsShortly tokens.now trees → IsRead result trees }
     // What is refused is refused at the first fault.
     ensures refused { IfRefused result (IsRefusalOf tokens.now) }
+    // What has a first fault is refused at it.
+    ensures only_fault { (r : MapRefusal) → IsRefusalOf tokens.now r → IsRefused result r }
 {
     parse_slice(alloc, tokens.as_slice())
 }

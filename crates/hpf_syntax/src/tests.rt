@@ -1,3 +1,5 @@
+mod canonical;
+
 use super::*;
 use hpf_lex::{MapError, Word, tokens};
 use hpf_vectors::grammar::{ACCEPTED, LONG, PLACES, REFUSED};

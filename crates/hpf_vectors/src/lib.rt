@@ -2,5 +2,6 @@
 //! what it reads as, and ends with `|`.
 #![tactic(auto)]
 
+pub mod canonical;
 pub mod grammar;
 pub mod tokens;

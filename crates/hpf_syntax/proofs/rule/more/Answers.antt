@@ -1,7 +1,7 @@
 use Rattle.std.proofs.Common.{◌≡◌, ◌++◌, ◌∷◌, [], ◌-◌, map, length, sym, ◌∙◌}
 use Rattle.std.proofs.lemmas.Result.{err_from_is_err_and}
 use Rattle.std.proofs.lemmas.List.{map_push}
-use Rattle.hpf_syntax.specs.Reading.{Fails, rest_of, more_at}
+use Rattle.hpf_syntax.specs.Reading.{Fails, rest_of}
 use Rattle.hpf_syntax.proofs.Lists.{more_goes_on, more_fails, more_ends, more_stops}
 use Rattle.hpf_syntax.proofs.rule.more.Goals as goal
 use Rattle.hpf_syntax.proofs.rule.more.Goals.{else-loop-test, then-loop-test+then-not-begins}
