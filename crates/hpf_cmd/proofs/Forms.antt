@@ -1,51 +1,82 @@
--- A first form, line by line.
-use Rattle.std.proofs.Common.{◌≡◌, ℕ, Bool, true, false, not, List, codes, sym, ap, ◌∙◌, nat_eq}
-use Rattle.std.specs.Cmp.Lexicographic.{pointwise}
-use Rattle.std.proofs.lemmas.Slice.Eq.{bytes_eq-Decides}
-use Rattle.hpf_cmd.specs.Declaration.{declaration, Declares, last_lines}
-use Rattle.hpf_cmd.specs.FirstForm.{Extents, IsFirstForm}
+-- The four statements of a first form.
+use Rattle.std.proofs.Common.{◌≡◌, ◌≢◌, ◌≤◌, ◌<◌, ℕ, List, [], ◌∷◌, length, map, get_or, sym, ap, ◌∙◌, arith}
+use Rattle.hpf_syntax.specs.declared.tree.Item.{Item}
+use Rattle.hpf_syntax.specs.Plain.{Tree, Number, BoundTree, DeclaredTree, ItemTree, Variables, Processors, item_tree}
+use Rattle.hpf_syntax.specs.Placeless.{bare_item}
+use Rattle.hpf_cmd.specs.FirstForm.{Extents, IsFirstForm, array_item, arrangement_item, distribute_item, input_item}
 
--- what stands behind the array's declaration
-abbrev pub behind_array : ℕ → ℕ → ℕ → List ℕ
-behind_array array arrangement procs = declaration (codes "!HPF$ PROCESSORS ") arrangement procs (last_lines array arrangement)
+-- a list of four, by its items
+four : {A : Type 0} (xs : List A) (a b c d : A) → 4 ≤ length xs → length xs < 5 → a ≡ get_or xs 0 a → b ≡ get_or xs 1 b → c ≡ get_or xs 2 c → d ≡ get_or xs 3 d → xs ≡ a ∷ b ∷ c ∷ d ∷ []
+four [] a b c d least most p q r s = absurd (omega arith)
+four (x ∷ []) a b c d least most p q r s = absurd (omega arith)
+four (x ∷ y ∷ []) a b c d least most p q r s = absurd (omega arith)
+four (x ∷ y ∷ z ∷ []) a b c d least most p q r s = absurd (omega arith)
+four (x ∷ y ∷ z ∷ w ∷ []) a b c d least most p q r s = cc
+four (x ∷ y ∷ z ∷ w ∷ v ∷ vs) a b c d least most p q r s = absurd (omega arith)
 
-pub first_declares : (text : List ℕ) (form : Extents) (h : IsFirstForm text form) → Declares text (codes "INTEGER ") 65536 h.array form.elements (behind_array h.array h.arrangement form.procs)
-first_declares text form h = record {
-  name_is = h.array_is;
-  extent_least = h.elements_least;
-  extent_most = h.elements_most;
-  bytes_are = h.text_is;
-}
+-- what each of four statements is, places aside
+pub record AreFour (array arrangement : List ℕ) (form : Extents) (a b c d : ItemTree) : Type 0 where
+  pub first : bare_item a ≡ array_item array form.elements
+  pub second : bare_item b ≡ arrangement_item arrangement form.procs
+  pub third : bare_item c ≡ distribute_item array arrangement
+  pub fourth : bare_item d ≡ input_item array
 
-pub then_declares : (text rest : List ℕ) (form : Extents) (h : IsFirstForm text form) → rest ≡ behind_array h.array h.arrangement form.procs → Declares rest (codes "!HPF$ PROCESSORS ") 64 h.arrangement form.procs (last_lines h.array h.arrangement)
-then_declares text rest form h e = record {
-  name_is = h.arrangement_is;
-  extent_least = h.procs_least;
-  extent_most = h.procs_most;
-  bytes_are = e;
-}
+heads : {A : Type 0} {x y : A} {xs ys : List A} → x ∷ xs ≡ y ∷ ys → (x ≡ y) × (xs ≡ ys)
+heads e = (cc, cc)
 
-pub from_declares : (text rest end : List ℕ) (array arrangement elements procs : ℕ) → Declares text (codes "INTEGER ") 65536 array elements rest → Declares rest (codes "!HPF$ PROCESSORS ") 64 arrangement procs end → end ≡ last_lines array arrangement → (array ≡ arrangement → ⊥) → IsFirstForm text (record { elements = elements; procs = procs })
-from_declares text rest end array arrangement elements procs first then at_end differ = record {
+pub are_four : (items : List Item) (a b c d : Item) → 4 ≤ length items → length items < 5 → a ≡ get_or items 0 a → b ≡ get_or items 1 b → c ≡ get_or items 2 c → d ≡ get_or items 3 d → (form : Extents) (h : IsFirstForm (map item_tree items) form) → AreFour h.array h.arrangement form (item_tree a) (item_tree b) (item_tree c) (item_tree d)
+are_four items a b c d least most p q r s form h =
+    let all = ap (λ (xs : List Item). map bare_item (map item_tree xs)) (sym (four items a b c d least most p q r s)) ∙ h.items_are in
+    let one = heads all in
+    let two = heads one.1 in
+    let three = heads two.1 in
+    record { first = one.0; second = two.0; third = three.0; fourth = (heads three.1).0 }
+
+pub is_first_form : (items : List Item) (a b c d : Item) → 4 ≤ length items → length items < 5 → a ≡ get_or items 0 a → b ≡ get_or items 1 b → c ≡ get_or items 2 c → d ≡ get_or items 3 d → (array arrangement distributee onto input : List ℕ) (form : Extents)
+    → bare_item (item_tree a) ≡ array_item array form.elements → bare_item (item_tree b) ≡ arrangement_item arrangement form.procs → bare_item (item_tree c) ≡ distribute_item distributee onto → bare_item (item_tree d) ≡ input_item input
+    → array ≢ arrangement → distributee ≡ array → onto ≡ arrangement → input ≡ array → 1 ≤ form.elements → form.elements ≤ 65536 → 1 ≤ form.procs → form.procs ≤ 64 → IsFirstForm (map item_tree items) form
+is_first_form items a b c d least most p q r s array arrangement distributee onto input form one two three four_is differ of_array on_it in_array e1 e2 p1 p2 = record {
   array = array;
   arrangement = arrangement;
-  array_is = first.name_is;
-  arrangement_is = then.name_is;
   differ = differ;
-  elements_least = first.extent_least;
-  elements_most = first.extent_most;
-  procs_least = then.extent_least;
-  procs_most = then.extent_most;
-  text_is = first.bytes_are ∙ ap (declaration (codes "INTEGER ") array elements) (then.bytes_are ∙ ap (declaration (codes "!HPF$ PROCESSORS ") arrangement procs) at_end);
+  elements_least = e1;
+  elements_most = e2;
+  procs_least = p1;
+  procs_most = p2;
+  items_are = ap (λ (xs : List Item). map bare_item (map item_tree xs)) (four items a b c d least most p q r s) ∙ cc;
 }
 
--- what a `!=` of bytes says
-pub same_bytes : (xs ys : List ℕ) (r : Bool) → r ≡ not (pointwise nat_eq xs ys) → r ≡ false → xs ≡ ys
-same_bytes xs ys r h f = (bytes_eq-Decides xs ys).0 (positive (pointwise nat_eq xs ys) (sym h ∙ f))
-  where
-    positive : (b : Bool) → not b ≡ false → b ≡ true
-    positive true e = cc
-    positive false e = cc
+abbrev number_in : Tree → ℕ
+number_in (Number at n) = n
+number_in _ = 0
 
-pub other_bytes : (xs ys : List ℕ) (r : Bool) → r ≡ not (pointwise nat_eq xs ys) → r ≡ true → xs ≡ ys → ⊥
-other_bytes xs ys r h t e = let same = (bytes_eq-Decides xs ys).1 e in cc
+abbrev extent_of : List BoundTree → ℕ
+extent_of [] = 0
+extent_of (b ∷ bs) = number_in b.high
+
+abbrev first_extent : List DeclaredTree → ℕ
+first_extent [] = 0
+first_extent (d ∷ ds) = extent_of d.shape
+
+abbrev extent_in : ItemTree → ℕ
+extent_in (Variables common names) = first_extent names
+extent_in (Processors names) = first_extent names
+extent_in _ = 0
+
+one_array : (a b : List ℕ) (m n : ℕ) → array_item a m ≡ array_item b n → m ≡ n
+one_array a b m n e = ap extent_in e
+
+one_arrangement : (a b : List ℕ) (m n : ℕ) → arrangement_item a m ≡ arrangement_item b n → m ≡ n
+one_arrangement a b m n e = ap extent_in e
+
+same_extents : (f g : Extents) → f.elements ≡ g.elements → f.procs ≡ g.procs → f ≡ g
+same_extents f g e h = ap (λ (n : ℕ). extents n f.procs) e ∙ ap (λ (n : ℕ). extents g.elements n) h
+  where
+    extents : ℕ → ℕ → Extents
+    extents m n = record { elements = m; procs = n }
+
+-- statements are of one form at most
+pub one_form : (items : List ItemTree) (f g : Extents) → IsFirstForm items f → IsFirstForm items g → f ≡ g
+one_form items f g x y =
+    let first = heads (sym x.items_are ∙ y.items_are) in
+    same_extents f g (one_array x.array y.array f.elements g.elements first.0) (one_arrangement x.arrangement y.arrangement f.procs g.procs (heads first.1).0)

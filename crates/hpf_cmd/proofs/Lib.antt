@@ -1,7 +1,3 @@
-pub mod Forms
-pub mod SameForms
-pub mod Numbers
-pub mod WordsLemmas
 pub mod Weights
 pub mod Dealt
 pub mod Grown
@@ -12,3 +8,5 @@ pub mod Answered
 pub mod Asked
 pub mod Rows
 pub mod Completed
+pub mod Forms
+pub mod SureEnds

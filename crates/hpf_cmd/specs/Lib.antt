@@ -1,5 +1,4 @@
 pub mod Words
-pub mod Declaration
 pub mod FirstForm
 pub mod Names
 pub mod StatusText

@@ -2,13 +2,14 @@
 
 ghost use Rattle.std.specs.Prelude.{◌≡◌, ◌≢◌, ℕ, ℤ, ◌≤◌, ◌<◌, ◌⊎◌, List, [], length, IfOk};
 ghost use Rattle.hpf_io.specs.Counts.{Rose};
-ghost use Rattle.hpf_io.specs.Bytes.{Adds, AddsPrefix};
+ghost use Rattle.hpf_io.specs.Bytes.{Adds, AddsPrefix, SameFlushed};
+ghost use Rattle.hpf_frame.specs.FrameFile.{header_length};
 ghost use Rattle.hpf_dist.specs.Axis.{AreProcs};
 ghost use Rattle.hpf_cmd.specs.MarkLines.{mark_lines};
 ghost use Rattle.hpf_cmd.specs.Parts.{AreParts};
 ghost use Rattle.hpf_cmd.specs.Pipeline.{one_stage};
-ghost use Rattle.hpf_cmd.specs.Run.{Finishes, GivesPrefix, HoldsNoFile};
-ghost use Rattle.hpf_cmd.specs.Runs.{Began, Stopped};
+ghost use Rattle.hpf_cmd.specs.Run.{Finishes, GivesPrefix, StopsReading, HoldsNoFile, IsSure, IsUnsureOfAnswer};
+ghost use Rattle.hpf_cmd.specs.Runs.{Began, Stopped, IsOfRuns};
 
 use crate::first_form::FirstForm;
 use crate::marks::mark_lines;
@@ -39,10 +40,14 @@ pub(crate) fn run_form<S: Source, K: Sink, N: Sink>(
     ensures prefix { Stopped result → GivesPrefix (one_stage form.elements) (S.left frames.old) (S.left frames.new) (K.given out.old) (K.given out.new) }
 
     ensures code { (code offset : ℕ) → result ≡ Status.InputRefused code offset → (code ≡ 0) × (offset ≡ 0) }
-    ensures no_file { (code offset : ℕ) → result ≡ Status.InputRefused code offset → HoldsNoFile (one_stage form.elements) (S.left frames.old) (S.left frames.new) }
+    ensures no_file { (code offset : ℕ) → result ≡ Status.InputRefused code offset → HoldsNoFile (one_stage form.elements) (S.left frames.old) (S.left frames.new) (K.given out.old) (K.given out.new) }
     ensures unread { result ≡ Status.ReadFault → Rose (S.faults frames.old) (S.faults frames.new) }
-    ensures unwritten { result ≡ Status.WriteFault → Rose (K.faults out.old) (K.faults out.new)
-        ⊎ (Rose (N.faults notes.old) (N.faults notes.new) × (K.faults out.new ≡ K.faults out.old) × ((all : List (List ℤ)) × Finishes (one_stage form.elements) all (S.left frames.old) (S.left frames.new) (K.given out.old) (K.given out.new) (K.flushed out.new))) }
+    ensures stop { result ≡ Status.ReadFault → StopsReading (one_stage form.elements) (header_length 1) (S.left frames.old) (S.left frames.new) (K.given out.old) (K.given out.new) }
+    ensures unwritten { result ≡ Status.WriteFault → (Rose (K.faults out.old) (K.faults out.new) × IsUnsureOfAnswer K.takes out.old (one_stage form.elements) (S.left frames.old) (S.left frames.new) × (notes.new ≡ notes.old) × SameFlushed (K.given out.new) (K.flushed out.old) (K.flushed out.new))
+        ⊎ (Rose (N.faults notes.old) (N.faults notes.new) × (K.faults out.new ≡ K.faults out.old) × ((all : List (List ℤ)) × Finishes (one_stage form.elements) all (S.left frames.old) (S.left frames.new) (K.given out.old) (K.given out.new) (K.flushed out.new)
+        × ¬ IsSure N.takes notes.old (mark_lines form.elements form.procs all))) }
+    ensures unflushed { IsOfRuns result → SameFlushed (K.given out.new) (K.flushed out.old) (K.flushed out.new) }
+    ensures unmarked { IsOfRuns result → notes.new ≡ notes.old }
     ensures read_counted { result ≢ Status.ReadFault → S.faults frames.new ≡ S.faults frames.old }
     ensures write_counted { result ≢ Status.WriteFault → K.faults out.new ≡ K.faults out.old }
     ensures notes_counted { result ≢ Status.WriteFault → N.faults notes.new ≡ N.faults notes.old }

@@ -3,16 +3,17 @@
 #![tactic(auto)]
 
 mod command;
-mod declaration;
 mod first_form;
 mod form_run;
 mod line;
+mod map;
 mod mark_line;
 mod marks;
 mod names;
 mod part;
 mod parts;
 mod run;
+mod show;
 mod status;
 mod stop;
 #[cfg(test)]

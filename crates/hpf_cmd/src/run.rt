@@ -3,14 +3,14 @@
 ghost use Rattle.std.specs.Prelude.{◌≡◌, All, ℕ, ℤ, ◌<◌, ◌≤◌, ◌+◌, ◌*◌, ◌^◌, [], ◌∷◌, ◌++◌, List, true, false, length, Ok, Err, IfOk, OnOk, OnErr};
 ghost use Rattle.std.specs.Bool.{OnTrue, OnFalse};
 ghost use Rattle.hpf_io.specs.Counts.{Rose};
-ghost use Rattle.hpf_io.specs.Bytes.{Takes, TakesFewer};
+ghost use Rattle.hpf_io.specs.Bytes.{Takes, TakesFewer, SameFlushed};
 ghost use Rattle.hpf_io.specs.Writes.{Writes};
-ghost use Rattle.hpf_frame.specs.FrameFile.{IsBroken, record_of, record_length, end_of};
+ghost use Rattle.hpf_frame.specs.FrameFile.{IsBroken, header_length, record_of, record_length, end_of};
 ghost use Rattle.hpf_frame.specs.Answers.{TakesWrong, IsOver, IsNotBuilt};
 ghost use Rattle.hpf_cmd.specs.Parts.{AreParts, IsWithin};
 ghost use Rattle.hpf_cmd.specs.Pass.{Reads, Marks};
 ghost use Rattle.hpf_cmd.specs.Pipeline.{one_stage};
-ghost use Rattle.hpf_cmd.specs.Run.{Finishes, GivesPrefix, HoldsNoFile};
+ghost use Rattle.hpf_cmd.specs.Run.{Finishes, GivesPrefix, IsUnsureOfAnswer, StopsReading, HoldsNoFile};
 ghost use Rattle.hpf_cmd.specs.Stops.{IfRefused, IfUnread, IfUnwritten};
 
 use crate::part::Part;
@@ -94,14 +94,17 @@ pub(crate) fn run_frames<S: Source, K: Sink>(
     ensures write_counted { OnOk result (K.faults out.new ≡ K.faults out.old) }
 
     ensures prefix { OnErr result (GivesPrefix (one_stage elements) (S.left frames.old) (S.left frames.new) (K.given out.old) (K.given out.new)) }
+    ensures unflushed { OnErr result (SameFlushed (K.given out.new) (K.flushed out.old) (K.flushed out.new)) }
 
     ensures code { IfRefused result IsNotBuilt }
-    ensures no_file { IfRefused result (λ _ _. HoldsNoFile (one_stage elements) (S.left frames.old) (S.left frames.new)) }
+    ensures no_file { IfRefused result (λ _ _. HoldsNoFile (one_stage elements) (S.left frames.old) (S.left frames.new) (K.given out.old) (K.given out.new)) }
     ensures refused_read_counted { IfRefused result (λ _ _. S.faults frames.new ≡ S.faults frames.old) }
     ensures refused_write_counted { IfRefused result (λ _ _. K.faults out.new ≡ K.faults out.old) }
     ensures unread { IfUnread result (Rose (S.faults frames.old) (S.faults frames.new)) }
+    ensures stop { IfUnread result (StopsReading (one_stage elements) (header_length 1) (S.left frames.old) (S.left frames.new) (K.given out.old) (K.given out.new)) }
     ensures unread_write_counted { IfUnread result (K.faults out.new ≡ K.faults out.old) }
     ensures unwritten { IfUnwritten result (Rose (K.faults out.old) (K.faults out.new)) }
+    ensures unsure { IfUnwritten result (IsUnsureOfAnswer K.takes out.old (one_stage elements) (S.left frames.old) (S.left frames.new)) }
     ensures unwritten_read_counted { IfUnwritten result (S.faults frames.new ≡ S.faults frames.old) }
 
     ensures read_later { S.faults frames.old ≤ S.faults frames.new }

@@ -9,6 +9,7 @@ ghost use Rattle.std.specs.Option.{option_map};
 use crate::line::{LONGEST, Line, plain, push_number};
 use crate::names::{input_name, map_name};
 use hpf_io::{Failed, Sink, write_all};
+use hpf_lex::MapRefusal;
 
 /// What the command line looks like.
 const USAGE: &str =
@@ -52,6 +53,20 @@ impl Status {
             Status::WriteFault => 6,
             Status::LoadFault => 7,
             Status::OutOfMemory => 8,
+        }
+    }
+}
+
+impl From<MapRefusal> for Status {
+    ghost use Rattle.hpf_cmd.specs.declared.status.Status.TheVariants as statuses;
+
+    ghost from_gives = { λ r status. status ≡ statuses.MapRefused r.code r.line r.column };
+
+    fn from(refusal: MapRefusal) -> Status {
+        Status::MapRefused {
+            code: refusal.code,
+            line: refusal.line,
+            column: refusal.column,
         }
     }
 }

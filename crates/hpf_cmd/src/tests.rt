@@ -3,6 +3,9 @@
 mod ends;
 mod forms;
 mod lines;
+mod loads;
 mod runs;
+mod shows;
 mod stops;
+mod sure;
 mod words;

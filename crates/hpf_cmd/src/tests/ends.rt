@@ -27,6 +27,8 @@ pub(super) struct Ends<'a> {
     pub(super) step: usize,
     /// The most bytes that out holds.
     pub(super) room: usize,
+    /// The most bytes that notes hold.
+    pub(super) notes_room: usize,
     pub(super) failing_loads: &'a [u64],
     pub(super) failing_reads: &'a [u64],
     pub(super) failing_writes: &'a [u64],
@@ -41,6 +43,7 @@ pub(super) fn sound<'a>(text: &'a str, frames: &'a [u8], step: usize) -> Ends<'a
         frames,
         step,
         room: 200,
+        notes_room: 200,
         failing_loads: &[],
         failing_reads: &[],
         failing_writes: &[],
@@ -64,7 +67,7 @@ pub(super) fn run(alloc: Global, ends: Ends) -> Result<Left, AllocError> {
     texts.add(alloc, "M", ends.text.as_bytes())?;
     let mut frames = MemSource::new(alloc, ends.frames, step, ends.failing_reads)?;
     let mut out = MemSink::new(alloc, ends.room, step, ends.failing_writes)?;
-    let mut notes = MemSink::new(alloc, 200, step, ends.failing_notes)?;
+    let mut notes = MemSink::new(alloc, ends.notes_room, step, ends.failing_notes)?;
     let status = command_one(alloc, &words, &mut texts, &mut frames, &mut out, &mut notes);
     Ok(Left { status, out, notes })
 }

@@ -4,6 +4,8 @@ ghost use Rattle.std.specs.Prelude.{◌≤◌};
 
 use super::ends::{Ends, MARKS, ONE_FRAME, THREE_ON_TWO, run, sound};
 use crate::status::Status;
+use Count::{Bytes, Number};
+use End::{Frames, Notes, Out};
 use std::test::*;
 
 const REFUSED: Status = Status::InputRefused { code: 0, offset: 0 };
@@ -89,37 +91,78 @@ fn files_that_are_wrong(rt: HostRuntime) -> Result<(), Fail> {
     Ok(())
 }
 
-#[test]
-fn reads_that_fail(rt: HostRuntime) -> Result<(), Fail> {
-    let whole = sound(THREE_ON_TWO, &ONE_FRAME, 1);
-    for number in 0..35u8 {
-        let ends = Ends {
-            failing_reads: &[u64::from(number)],
-            ..whole
-        };
-        let left = run(rt.alloc(), ends)?;
-        let given = answered(usize::from(number));
-        assert_eq!(rt; left.status, Status::ReadFault, "read {number}");
-        assert_eq!(rt; left.out.bytes(), &ONE_FRAME[..given], "read {number}");
-        assert_eq!(rt; left.notes.bytes(), b"".as_slice(), "read {number}");
-    }
-    Ok(())
+/// An end of a run, of which one call fails.
+#[derive(Clone, Copy, Debug)]
+enum End {
+    Frames,
+    Out,
+    Notes,
 }
 
-/// The writes 0 to 33 give a byte each, and call 34 is the flush.
+/// How many bytes a sink has: so many, or as many as the number of the call that fails.
+#[derive(Clone, Copy, Debug)]
+enum Count {
+    Bytes(usize),
+    Number,
+}
+
+impl Count {
+    fn at(self, number: u64) -> usize {
+        match self {
+            Bytes(bytes) => bytes,
+            Number => number as usize,
+        }
+    }
+}
+
+/// The numbers from the first to the last of the call that fails, the status, and what out has of the answer and notes
+/// of the marks. Each call moves a byte. Read 34 meets the end of the file, and call 34 of out is the flush. No run makes
+/// read 35, call 35 of out or call 44 of notes.
+const FAILING: &[(End, u64, u64, Status, Count, Count)] = &[
+    (Frames, 0, 11, Status::ReadFault, Bytes(0), Bytes(0)),
+    (Frames, 12, 28, Status::ReadFault, Bytes(12), Bytes(0)),
+    (Frames, 29, 34, Status::ReadFault, Bytes(29), Bytes(0)),
+    (Frames, 35, 35, Status::Ok, Bytes(34), Bytes(44)),
+    (Out, 0, 33, Status::WriteFault, Number, Bytes(0)),
+    (Out, 34, 34, Status::WriteFault, Bytes(34), Bytes(0)),
+    (Out, 35, 35, Status::Ok, Bytes(34), Bytes(44)),
+    (Notes, 0, 43, Status::WriteFault, Bytes(34), Number),
+    (Notes, 44, 44, Status::Ok, Bytes(34), Bytes(44)),
+];
+
 #[test]
-fn writes_that_fail(rt: HostRuntime) -> Result<(), Fail> {
-    let whole = sound(THREE_ON_TWO, &ONE_FRAME, 1);
-    for number in 0..35u8 {
-        let ends = Ends {
-            failing_writes: &[u64::from(number)],
-            ..whole
-        };
-        let left = run(rt.alloc(), ends)?;
-        let given = usize::from(number);
-        assert_eq!(rt; left.status, Status::WriteFault, "call {number}");
-        assert_eq!(rt; left.out.bytes(), &ONE_FRAME[..given], "call {number}");
-        assert_eq!(rt; left.notes.bytes(), b"".as_slice(), "call {number}");
+fn calls_that_fail(rt: HostRuntime) -> Result<(), Fail> {
+    for (end, first, last, status, out, notes) in FAILING {
+        for number in *first..=*last {
+            let fails = [number];
+            let whole = sound(THREE_ON_TWO, &ONE_FRAME, 1);
+            let ends = match end {
+                Frames => Ends {
+                    failing_reads: &fails,
+                    ..whole
+                },
+                Out => Ends {
+                    failing_writes: &fails,
+                    ..whole
+                },
+                Notes => Ends {
+                    failing_notes: &fails,
+                    ..whole
+                },
+            };
+            let left = run(rt.alloc(), ends)?;
+            assert_eq!(rt; left.status, *status, "{end:?} {number}");
+            assert_eq!(rt;
+                Some(left.out.bytes()),
+                ONE_FRAME.get(..out.at(number)),
+                "{end:?} {number}"
+            );
+            assert_eq!(rt;
+                Some(left.notes.bytes()),
+                MARKS.get(..notes.at(number)),
+                "{end:?} {number}"
+            );
+        }
     }
     Ok(())
 }
@@ -137,23 +180,6 @@ fn sinks_that_are_full(rt: HostRuntime) -> Result<(), Fail> {
             assert_eq!(rt; left.out.bytes(), &ONE_FRAME[..room], "room {room}");
             assert_eq!(rt; left.notes.bytes(), b"".as_slice(), "room {room}");
         }
-    }
-    Ok(())
-}
-
-#[test]
-fn notes_that_fail(rt: HostRuntime) -> Result<(), Fail> {
-    let whole = sound(THREE_ON_TWO, &ONE_FRAME, 1);
-    for number in 0..44u8 {
-        let ends = Ends {
-            failing_notes: &[u64::from(number)],
-            ..whole
-        };
-        let left = run(rt.alloc(), ends)?;
-        let given = usize::from(number);
-        assert_eq!(rt; left.status, Status::WriteFault, "call {number}");
-        assert_eq!(rt; left.out.bytes(), ONE_FRAME.as_slice(), "call {number}");
-        assert_eq!(rt; left.notes.bytes(), &MARKS[..given], "call {number}");
     }
     Ok(())
 }

@@ -1,5 +1,5 @@
-use Rattle.hpf_cmd.proofs.SameForms.{same_forms}
+use Rattle.hpf_cmd.proofs.Forms.{one_form}
 use Rattle.hpf_cmd.proofs.first_form.one_form.Goals as goal
 
 pub returns : goal.returns
-returns c = same_forms
+returns c = one_form
