@@ -1,6 +1,6 @@
 -- The grammar of mapping texts (this project defines it, after Fortran 90 and High Performance Fortran 2.0).
 -- `Sign t` is the token t, `Separated R` is `R { "," R }`, `or` is a choice, and `Done x` is nothing, with the value x.
--- The rules and their alternatives stand as in the published grammar, and alternatives in its order.
+-- Each rule has the alternatives of the published grammar (docs/formats.md), in its order.
 use Rattle.std.specs.Prelude.{◌≡◌, List, [], ◌∷◌, ◌++◌, Option, Some, None}
 use Rattle.hpf_syntax.specs.declared.tree.At.{At}
 use Rattle.hpf_syntax.specs.declared.tree.Spot.{Spot}
@@ -101,11 +101,11 @@ AConstant = do
 abbrev pub ADimension : Rule (List BoundTree)
 ADimension = Sign terminal.Dimension >>= λ at. AShape
 
--- variables
+-- variables = variable { "," variable }, with the shape that they have in common
 abbrev pub SomeVariables : List BoundTree → Rule ItemTree
 SomeVariables common = Separated AVariable >>= λ names. Done (Variables common names)
 
--- constants
+-- constants = constant { "," constant }, with the shape that they have in common
 abbrev pub SomeConstants : List BoundTree → Rule ItemTree
 SomeConstants common = Separated AConstant >>= λ names. Done (Constants common names)
 

@@ -8,7 +8,7 @@ use Rattle.hpf_syntax.specs.Grammar.{Enclosed, AfterColon, NamesBehind, OwnShape
 
 -- ---- declarations
 
--- value = expr | array
+-- value = array | expr
 abbrev pub AValue : Rule ValueTree
 AValue = (AnArray >>= λ list. Done (Many list)) or (AnExpression >>= λ e. Done (One e))
 
@@ -21,7 +21,7 @@ AConstant = do
   value ← AValue
   Done (record { name = name; shape = shape; value = value })
 
--- constants
+-- constants = constant { "," constant }
 abbrev pub SomeConstants : List BoundTree → Rule ItemTree
 SomeConstants common = Separated AConstant >>= λ names. Done (Constants common names)
 
@@ -104,7 +104,7 @@ ADirective =
 
 -- ---- the text
 
--- statement = fortran | Hpf directive | Pipe pipeline
+-- statement = Hpf directive | Pipe pipeline | fortran
 abbrev pub AStatement : Rule ItemTree
 AStatement = (Sign terminal.Hpf >>= λ at. ADirective) or ((Sign terminal.Pipe >>= λ at. APipeline) or Fortran)
 
