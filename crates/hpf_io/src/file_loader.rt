@@ -3,6 +3,8 @@
 ghost use Rattle.std.specs.Prelude.{◌≡◌, ◌≢◌, ◌≤◌, ◌+◌, length, take, None, Some, Err, IfOk, IfSome, IsErrOf, refl};
 ghost use Rattle.hpf_io.specs.Calls.{one_more_fault};
 
+use crate::answer::answered;
+use crate::failed::Failed;
 use crate::loader::Loader;
 use crate::text::{LoadError, Text};
 use std::alloc::Global;
@@ -45,8 +47,12 @@ impl<'a, R: Files> FileLoader<'a, R> {
     }
 }
 
-/// The first `limit + 1` bytes of what is left to read, or all of them where there are fewer.
-fn read_front<F: Read>(from: &mut F, alloc: Global, limit: usize) -> Result<Text, LoadError>
+/// The first `limit + 1` bytes of what a reader has left, or all of them where there are fewer.
+pub(crate) fn read_front<F: Read>(
+    from: &mut F,
+    alloc: Global,
+    limit: usize,
+) -> Result<Text, LoadError>
     ensures within { IfOk result (λ text. length text ≤ limit + 1) }
     ensures front { IfOk result (λ text. IfSome (F.remaining from.old) (λ bytes. text ≡ take (limit + 1) bytes)) }
 {
@@ -54,12 +60,12 @@ fn read_front<F: Read>(from: &mut F, alloc: Global, limit: usize) -> Result<Text
     let mut piece = [0u8; PIECE];
     while bytes.len() <= limit {
         let wanted = PIECE.min((limit - bytes.len()).saturating_add(1));
-        match from.read(&mut piece[..wanted]) {
+        match answered(from.read(&mut piece[..wanted])) {
             Ok(0) => break,
             Ok(count) => bytes
                 .extend_from_slice(&piece[..count])
                 .map_err(LoadError::Memory)?,
-            Err(_) => return Err(LoadError::Failed),
+            Err(Failed) => return Err(LoadError::Failed),
         }
     }
     Ok(Text::new(bytes))
@@ -76,7 +82,7 @@ impl<R: Files> Loader for FileLoader<'_, R> {
 
     /// An error of the system is `Failed`, and want of memory for the name or the text `Memory`.
     fn load(&mut self, alloc: Global, name: &str, limit: usize) -> Result<Text, LoadError>
-        // The text is the front of a file that was opened, as far as its bytes are known.
+        // The text is the front of what some file value has left, as far as that is known.
         ensures front { IfOk result (λ text. (file : R.File) × IfSome (R.File.remaining file) (λ bytes. text ≡ take (limit + 1) bytes)) }
         ensures within { IfOk result (λ text. length text ≤ limit + 1) }
         ensures fault { IsErrOf result LoadError.Failed → self.new.faults ≡ one_more_fault self.old.faults }

@@ -1,12 +1,12 @@
 //! A sink over a writer of std.
 
-ghost use Rattle.std.specs.Prelude.{◌≡◌, ◌<◌, ◌≤◌, ◌⊎◌, length, [], Some, None, IfOk, OnOk, OnErr, refl};
+ghost use Rattle.std.specs.Prelude.{◌≡◌, ◌<◌, ◌≤◌, length, None, IfOk, OnOk, OnErr, refl};
 ghost use Rattle.std.specs.Io.KnownBytes.{Keeps, WriteAppends};
 ghost use Rattle.hpf_io.specs.Calls.{one_more_fault};
 
+use crate::answer::{answered, counted, taken};
 use crate::failed::Failed;
 use crate::sink::Sink;
-use std::io;
 use std::io::Write;
 use std::marker::Model;
 
@@ -35,19 +35,6 @@ impl<W: Write> StdSink<W> {
     }
 }
 
-/// How much of the piece a writer took. An error is a fault, which is `None`, and so is to take nothing of a piece that
-/// isn't empty.
-fn taken(answer: io::Result<usize>, piece: &[u8]) -> Option<usize>
-    ensures count { IfOk answer (λ n. (0 < n) ⊎ (length piece.now ≡ 0) → result ≡ Some n) }
-    ensures nothing { IfOk answer (λ n. n ≡ 0 → 0 < length piece.now → result ≡ None) }
-    ensures error { OnErr answer (result ≡ None) }
-{
-    match answer {
-        Ok(count) if count > 0 || piece.is_empty() => Some(count),
-        _ => None,
-    }
-}
-
 impl<W: Write> Sink for StdSink<W> {
     ghost given = { λ _. None };
 
@@ -66,13 +53,7 @@ impl<W: Write> Sink for StdSink<W> {
         ensures counted { OnOk result (self.new.faults ≡ self.old.faults) }
         ensures later { self.old.faults ≤ self.new.faults }
     {
-        match taken(self.to.write(from), from) {
-            Some(count) => Ok(count),
-            None => {
-                self.faults = self.faults.saturating_add(1);
-                Err(Failed)
-            }
-        }
+        counted(taken(self.to.write(from), from), &mut self.faults)
     }
 
     fn flush(&mut self) -> Result<(), Failed>
@@ -81,13 +62,7 @@ impl<W: Write> Sink for StdSink<W> {
         ensures counted { OnOk result (self.new.faults ≡ self.old.faults) }
         ensures later { self.old.faults ≤ self.new.faults }
     {
-        match self.to.flush() {
-            Ok(()) => Ok(()),
-            Err(_) => {
-                self.faults = self.faults.saturating_add(1);
-                Err(Failed)
-            }
-        }
+        counted(answered(self.to.flush()), &mut self.faults)
     }
 
     ghost told_below_last = { λ s e. refl };

@@ -4,6 +4,7 @@ ghost use Rattle.std.specs.Prelude.{◌≡◌, ◌≤◌, length, None, IfOk, On
 ghost use Rattle.std.specs.Io.KnownBytes.{ReadConsumes};
 ghost use Rattle.hpf_io.specs.Calls.{one_more_fault};
 
+use crate::answer::{answered, counted};
 use crate::failed::Failed;
 use crate::source::Source;
 use std::io::Read;
@@ -46,13 +47,7 @@ impl<R: Read> Source for StdSource<R> {
         ensures counted { OnOk result (self.new.faults ≡ self.old.faults) }
         ensures later { self.old.faults ≤ self.new.faults }
     {
-        match self.from.read(into) {
-            Ok(count) => Ok(count),
-            Err(_) => {
-                self.faults = self.faults.saturating_add(1);
-                Err(Failed)
-            }
-        }
+        counted(answered(self.from.read(into)), &mut self.faults)
     }
 
     ghost told_below_last = { λ s e. refl };

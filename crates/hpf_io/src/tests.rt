@@ -5,7 +5,7 @@ ghost use Rattle.hpf_io.specs.Bytes.{Adds, Stays};
 ghost use Rattle.hpf_io.specs.Counts.{Rose};
 
 use crate::failed::Failed;
-use crate::file_loader::FileLoader;
+use crate::file_loader::{FileLoader, read_front};
 use crate::loader::Loader;
 use crate::mem_loader::MemLoader;
 use crate::mem_sink::MemSink;
@@ -125,34 +125,72 @@ fn the_other_sinks_take_all(rt: HostRuntime) -> Result<(), Fail> {
     Ok(())
 }
 
-/// A reader and writer of std of which every call fails.
+/// A reader and writer of std of which the first call fails, and every one behind it does well.
 #[derive(Drop)]
-struct Broken;
+struct FailsFirst {
+    error: io::ErrorKind,
+    over: bool,
+}
 
-impl io::Read for Broken {
-    fn read(&mut self, _: &mut [u8]) -> io::Result<usize> {
-        Err(io::Error::from(io::ErrorKind::Other))
+impl FailsFirst {
+    fn new(error: io::ErrorKind) -> FailsFirst {
+        FailsFirst { error, over: false }
+    }
+
+    fn call(&mut self) -> io::Result<usize>
+        ensures { IfOk result (λ n. n ≡ 0) }
+    {
+        if self.over {
+            return Ok(0);
+        }
+        self.over = true;
+        Err(io::Error::from(self.error))
     }
 }
 
-impl io::Write for Broken {
+impl io::Read for FailsFirst {
+    fn read(&mut self, _: &mut [u8]) -> io::Result<usize> {
+        self.call()
+    }
+}
+
+impl io::Write for FailsFirst {
     fn write(&mut self, _: &[u8]) -> io::Result<usize> {
-        Err(io::Error::from(io::ErrorKind::Other))
+        self.call()
     }
 
     fn flush(&mut self) -> io::Result<()> {
-        Err(io::Error::from(io::ErrorKind::Other))
+        self.call().map(|_| ())
     }
 }
 
 #[test]
 fn an_error_of_std_is_a_fault(rt: HostRuntime) {
-    let mut source = StdSource::new(Broken);
-    let mut piece = [0u8; 4];
-    assert_eq!(rt; source.read(&mut piece), Err(Failed));
-    let mut sink = StdSink::new(Broken);
-    assert_eq!(rt; sink.write(b"abc"), Err(Failed));
-    assert_eq!(rt; sink.flush(), Err(Failed));
+    for error in [io::ErrorKind::Other, io::ErrorKind::Interrupted] {
+        let mut source = StdSource::new(FailsFirst::new(error));
+        let mut piece = [0u8; 4];
+        assert_eq!(rt; source.read(&mut piece), Err(Failed));
+        assert_eq!(rt; source.read(&mut piece), Ok(0));
+        let mut sink = StdSink::new(FailsFirst::new(error));
+        assert_eq!(rt; sink.write(b""), Err(Failed));
+        assert_eq!(rt; sink.write(b""), Ok(0));
+        assert_eq!(rt; sink.write(b"abc"), Err(Failed));
+        let mut sink = StdSink::new(FailsFirst::new(error));
+        assert_eq!(rt; sink.flush(), Err(Failed));
+        assert_eq!(rt; sink.flush(), Ok(()));
+        let front = read_front(&mut FailsFirst::new(error), rt.alloc(), 9);
+        assert!(rt; matches!(front, Err(LoadError::Failed)));
+    }
+}
+
+#[test]
+fn a_load_error_has_a_message(rt: HostRuntime) -> Result<(), Fail> {
+    let alloc = rt.alloc();
+    let failed = format!(in alloc; "{}", LoadError::Failed)?;
+    assert_eq!(rt; failed.as_str(), "the load failed");
+    let memory = format!(in alloc; "{}", LoadError::Memory(AllocError))?;
+    assert_eq!(rt; memory.as_str(), "out of memory");
+    Ok(())
 }
 
 /// What a load of that name, and of at most `limit + 1` bytes, gives: the text, `-` for a fault and `m` for want of

@@ -19,7 +19,7 @@ use Rattle.hpf_lex.specs.Name.{is_name}
 use Rattle.hpf_lex.specs.Line.{Part, before_comment, without_blanks_at_end, form_of, lines_of, part_of, parts_of}
 use Rattle.hpf_lex.specs.OneLine.{OneLine, prefix_text, one_line, first_token, line_tokens, StandsOn, StandFrom, tokens_from, one_line_text}
 use Rattle.hpf_lex.specs.Spelling.{Spells}
-use Rattle.hpf_lex.specs.Statement.{Mark, token, fault, bare_token, marks, ends_open, own_text, prefix_kind, prefix_marks, first_marks, place, past_last, max_text}
+use Rattle.hpf_lex.specs.Statement.{Mark, token, fault, bare_token, marks, ends_open, own_text, prefix_kind, prefix_marks, first_marks, place, past_last, max_text, text_marks}
 use Rattle.hpf_lex.specs.Text.{HasTokens, tokens_of, faults_of}
 use Rattle.hpf_lex.specs.Scanning.{with_front, read, closing_marks, inner_marks, past_inner, part_marks, pending_part, line_marks, pending_line, scan}
 use Rattle.hpf_lex.proofs.Cuts.{only_cut}
@@ -27,7 +27,7 @@ use Rattle.hpf_lex.proofs.Lines.{lines-none, lines-feed, lines-byte}
 use Rattle.hpf_lex.proofs.Longest.{is_longest, token_some, digits_are_name_bytes}
 use Rattle.hpf_lex.proofs.Marks.{marks-none, marks-blank, marks-token, past_last-append}
 use Rattle.hpf_lex.proofs.Order.{tokens_read}
-use Rattle.hpf_lex.proofs.Parts.{scan-line, scan-none, shut_closing}
+use Rattle.hpf_lex.proofs.Parts.{scan-line, scan-none, scan_is, shut_closing}
 
 -- ---- the bytes of tokens
 
@@ -352,3 +352,7 @@ says_read (fault f ∷ ms) tokens h = absurd cc
 pub one_line_each : (ss : List OneLine) → StandFrom 1 ss → length (one_line_text ss) ≤ max_text → HasTokens (one_line_text ss) (tokens_from 1 ss)
 one_line_each ss h short =
     tokens_read (one_line_text ss) (tokens_from 1 ss) short (says_read (marks_from 1 (one_line_text ss)) (tokens_from 1 ss) (lines_say 1 ss h))
+
+pub one_line_marks : (ss : List OneLine) → StandFrom 1 ss → (faults_of (text_marks (one_line_text ss)) ≡ []) × (tokens_of (text_marks (one_line_text ss)) ≡ tokens_from 1 ss)
+unfolding text_marks
+one_line_marks ss h = subst (λ (ms : List Mark). Says ms (tokens_from 1 ss)) (scan_is (parts_of 1 (lines_of (one_line_text ss)))) (lines_say 1 ss h)

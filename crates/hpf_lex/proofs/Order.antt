@@ -2,6 +2,7 @@
 -- place.
 use Rattle.std.proofs.Common.{◌≡◌, ℕ, zero, suc, ◌+◌, ◌<◌, ◌≤◌, Bool, true, false, cond, eqb, ltb, ◌&&◌, ◌||◌, List, [], ◌∷◌, ◌++◌, length, get_or, drop, Option, Some, None, Result, Ok, Err, refl, sym, ap, subst, ◌∙◌, append_assoc, ◌⊎◌, inl, inr, arith, length-drop}
 use Rattle.std.specs.List.{AllByRecursion}
+use Rattle.std.proofs.lemmas.Bool.Decides.{nat_tests}
 use Rattle.std.proofs.lemmas.Bool.{cases_Bool, eqb-true, le-ltb, lt-ltb, or_from, or_left, or_right, and_left, and_right, and_from, cases_lt, eq-eqb}
 use Rattle.hpf_lex.specs.declared.lexeme.Lexeme.{Lexeme}
 use Rattle.hpf_lex.specs.declared.line.Form.{Form}
@@ -18,7 +19,8 @@ use Rattle.hpf_lex.specs.Bytes.{is_blank}
 use Rattle.hpf_lex.specs.Line.{Part, part_from, part_of, parts_of, put_part, lines_of}
 use Rattle.hpf_lex.specs.Lexeme.{lexeme_at}
 use Rattle.hpf_lex.specs.Statement.{Mark, token, fault, mark_at, mark_here, covered_behind, refusal_at, marks, prefix_kind, prefix_token, prefix_marks, own_text, first_marks, later_marks, same_form, ends_open, end_at, text_marks, max_text}
-use Rattle.hpf_lex.specs.Text.{tokens_of, faults_of, stands_before, least_of, least, tokens_or, reading, HasTokens, HasFault, Answers, IfRefused, IsOrMemory}
+use Rattle.hpf_lex.specs.Order.{stands_before, stands_with, comes_before, least_of, least}
+use Rattle.hpf_lex.specs.Text.{tokens_of, faults_of, tokens_or, reading, HasTokens, HasFault, Answers, IfRefused, IsRead, IsRefused}
 use Rattle.hpf_lex.specs.Scanning.{with_front, read, Fails, dangling, closing_marks, pending_behind, inner_marks, past_inner, part_marks, pending_part, left_open, scan}
 use Rattle.hpf_lex.proofs.Marks.{fault_behind}
 use Rattle.hpf_lex.proofs.Parts.{scan_is}
@@ -244,8 +246,14 @@ not_before_at fl fc gl gc le h =
       | inr e ↦ and_left (eqb gl fl) (ltb gc fc) e
     ])
 
-not_before : (f g : MapRefusal) → From f.line (f.column + 1) g → stands_before g f ≡ false
-not_before f g h = not_before_at f.line f.column g.line g.column h.line_from h.column_from
+not_with_at : (fl fc gl gc : ℕ) → (gl ≡ fl → fc + 1 ≤ gc) → (eqb gl fl && eqb gc fc) ≡ false
+not_with_at fl fc gl gc h = grind (arith, nat_tests)
+
+not_before : (f g : MapRefusal) → From f.line (f.column + 1) g → comes_before g f ≡ false
+not_before f g h =
+    or_from (stands_before g f) (stands_with g f && ltb g.code f.code)
+    (not_before_at f.line f.column g.line g.column h.line_from h.column_from)
+    (and_left (stands_with g f) (ltb g.code f.code) (not_with_at f.line f.column g.line g.column h.column_from))
 
 first_is_least : (f : MapRefusal) (ms : List Mark) → Rises f.line (f.column + 1) ms → least_of f (least (faults_of ms)) ≡ f
 first_is_least f [] h = refl
@@ -288,7 +296,7 @@ fault_read text f short e =
 
 -- an answer that is an error
 pub failed_answer : (text : List ℕ) (ms : List Mark) (e : MapError) → length text ≤ max_text
-    → ((f : MapRefusal) → read ms ≡ Err f → read (scan None (parts_of 1 (lines_of text))) ≡ Err f) → Fails ms e → Answers (Err e) text × IfRefused (Err e) (λ f. 1 ≤ f.line)
+    → ((f : MapRefusal) → read ms ≡ Err f → read (scan None (parts_of 1 (lines_of text))) ≡ Err f) → Fails ms e → Answers (Err e) text × IfRefused {A = List Token} (Err e) (λ f. 1 ≤ f.line)
 failed_answer text ms (errors.Refused f) short all h = fault_read text f short (all f h)
 failed_answer text ms (errors.Memory e) short all h = (tt, tt)
 
@@ -297,18 +305,14 @@ unfolding reading
 too_long_read text h = rw (lt-ltb max_text (length text) h) refl
 
 -- the answer for a text that isn't too long
-pub tokens_come : (text : List ℕ) (tokens : List Token) (result : Result (List Token) MapError) → Answers result text → HasTokens text tokens → IsOrMemory result (Ok tokens)
-tokens_come text tokens (Ok found) h k = ap good (ok_is found tokens (sym h ∙ k)) where
-  good : List Token → Result (List Token) MapError
-  good ts = Ok ts
+pub tokens_come : (text : List ℕ) (tokens : List Token) (result : Result (List Token) MapError) → Answers result text → HasTokens text tokens → IsRead result tokens
+tokens_come text tokens (Ok found) h k = ok_is found tokens (sym h ∙ k)
 tokens_come text tokens (Err (errors.Refused f)) h k = absurd (ok_no_err tokens f (sym k ∙ h))
 tokens_come text tokens (Err (errors.Memory e)) h k = tt
 
-pub fault_comes : (text : List ℕ) (f : MapRefusal) (result : Result (List Token) MapError) → Answers result text → HasFault text f → IsOrMemory result (Err (errors.Refused f))
+pub fault_comes : (text : List ℕ) (f : MapRefusal) (result : Result (List Token) MapError) → Answers result text → HasFault text f → IsRefused result f
 fault_comes text f (Ok found) h k = absurd (ok_no_err found f (sym h ∙ k))
-fault_comes text f (Err (errors.Refused g)) h k = ap bad (err_is g f (sym h ∙ k)) where
-  bad : MapRefusal → Result (List Token) MapError
-  bad x = Err (errors.Refused x)
+fault_comes text f (Err (errors.Refused g)) h k = err_is g f (sym h ∙ k)
 fault_comes text f (Err (errors.Memory e)) h k = tt
 
 -- ---- laws
@@ -388,3 +392,38 @@ pub first_fault : (text : List ℕ) (f : MapRefusal) → length text ≤ max_tex
 unfolding reading
 first_fault text f short h =
     first_of 1 0 (text_marks text) f (text_rises text) (verdict_err (least (faults_of (text_marks text))) (tokens_of (text_marks text)) f (rw (le-ltb max_text (length text) short) at h))
+
+-- ---- the order of refusals
+
+pub never_round : (f g : MapRefusal) → comes_before f g ≡ true → comes_before g f ≡ true → ⊥
+never_round f g h k = grind (arith, nat_tests)
+
+-- an earlier line, or the same and an earlier column, or both the same and a lesser code, without a choice
+record Earlier (f g : MapRefusal) : Type 0 where
+  line : f.line ≤ g.line
+  column : f.line ≡ g.line → f.column ≤ g.column
+  code : f.line ≡ g.line → f.column ≡ g.column → f.code < g.code
+
+earlier : (f g : MapRefusal) → comes_before f g ≡ true → Earlier f g
+earlier f g h = record { line = grind (arith, nat_tests); column = λ e. grind (arith, nat_tests); code = λ e d. grind (arith, nat_tests) }
+
+comes : (f g : MapRefusal) → f.line ≤ g.line → (f.line ≡ g.line → f.column ≤ g.column) → (f.line ≡ g.line → f.column ≡ g.column → f.code < g.code) → comes_before f g ≡ true
+comes f g a b c = grind (arith, nat_tests)
+
+pub goes_on : (f g h : MapRefusal) → comes_before f g ≡ true → comes_before g h ≡ true → comes_before f h ≡ true
+goes_on f g h p q =
+    let one : Earlier f g = earlier f g p in
+    let two : Earlier g h = earlier g h q in
+    comes f h (omega (arith, one.line, two.line)) (λ e. omega (arith, one.line, two.line, one.column, two.column))
+    (λ e d. omega (arith, one.line, two.line, one.column, two.column, one.code, two.code))
+
+same_places : (f g : MapRefusal) → comes_before f g ≡ false → comes_before g f ≡ false → (f.line ≡ g.line) × (f.column ≡ g.column) × (f.code ≡ g.code)
+same_places f g h k = (grind (arith, nat_tests), grind (arith, nat_tests), grind (arith, nat_tests))
+
+pub one_first : (f g : MapRefusal) → comes_before f g ≡ false → comes_before g f ≡ false → f ≡ g
+one_first f g h k = ap (λ (n : ℕ). make n f.column f.code) e.0 ∙ ap (λ (n : ℕ). make g.line n f.code) e.1 ∙ ap (λ (n : ℕ). make g.line g.column n) e.2 where
+  make : ℕ → ℕ → ℕ → MapRefusal
+  make line column code = record { code = code; line = line; column = column }
+
+  e : (f.line ≡ g.line) × (f.column ≡ g.column) × (f.code ≡ g.code)
+  e = same_places f g h k

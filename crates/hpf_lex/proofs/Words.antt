@@ -1,8 +1,9 @@
 -- Names and their bytes.
-use Rattle.std.proofs.Common.{◌≡◌, ℕ, ◌+◌, ◌-◌, ◌<◌, ◌≤◌, Bool, true, false, ◌&&◌, nat_le, List, [], ◌∷◌, map, length, get_or, set, take, drop, replicate, refl, sym, ap, ◌∙◌, arith}
+use Rattle.std.proofs.Common.{◌≡◌, ℕ, ◌+◌, ◌-◌, ◌<◌, ◌≤◌, Bool, true, false, ◌&&◌, nat_le, List, [], ◌∷◌, map, length, get_or, set, take, drop, replicate, refl, sym, ap, subst, ◌∙◌, arith}
 use Rattle.std.specs.List.{list_all}
 use Rattle.std.proofs.lemmas.List.{drop-set-lt, take_more, take_more_set, map_push, drop-drop, drop-replicate}
 use Rattle.std.proofs.lemmas.Bool.{leb-true}
+use Rattle.std.proofs.lemmas.Bool.Decides.{nat_tests}
 use Rattle.hpf_lex.specs.Bytes.{is_letter, is_name_byte, upper}
 use Rattle.hpf_lex.specs.Name.{is_name}
 
@@ -14,6 +15,18 @@ is_name_parts (c ∷ cs) h = refl
 and_right : (a b : Bool) → (a && b) ≡ true → b ≡ true
 and_right true b h = h
 and_right false b h = absurd cc
+
+-- letters stay in upper case
+upper-upper : (c : ℕ) → upper (upper c) ≡ upper c
+upper-upper c = grind (arith, nat_tests)
+
+pub map-upper-upper : (bytes : List ℕ) → map upper (map upper bytes) ≡ map upper bytes
+map-upper-upper [] = refl
+map-upper-upper (c ∷ cs) = let one = upper-upper c in let others = map-upper-upper cs in cc
+
+-- what was written is in upper case
+pub upper_written : (word bytes : List ℕ) (i : ℕ) → i ≡ length bytes → take i word ≡ map upper (take i bytes) → map upper (take (length bytes) word) ≡ take (length bytes) word
+upper_written word bytes i e written = subst (λ (n : ℕ). map upper (take n word) ≡ take n word) e (ap (map upper) written ∙ map-upper-upper (take i bytes) ∙ sym written)
 
 -- one more byte of a word
 pub one_more : (word bytes : List ℕ) (i c : ℕ) → length word ≡ 31 → length bytes ≤ 31 → i < length bytes → c ≡ upper (get_or bytes i 0) → take i word ≡ map upper (take i bytes)

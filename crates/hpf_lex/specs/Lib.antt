@@ -8,6 +8,7 @@ pub mod Spelling
 pub mod Views
 pub mod Statement
 pub mod Cut
+pub mod Order
 pub mod Text
 pub mod Scanning
 pub mod Follows

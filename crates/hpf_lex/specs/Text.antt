@@ -1,10 +1,11 @@
 -- What a mapping text says: its tokens, or its first fault.
-use Rattle.std.specs.Prelude.{◌≡◌, ℕ, Bool, ◌&&◌, ◌||◌, nat_lt, ◌==◌, if◌then◌else◌, List, [], ◌∷◌, length, Option, Some, None, Result, Ok, Err}
+use Rattle.std.specs.Prelude.{◌≡◌, ℕ, nat_lt, if◌then◌else◌, List, [], ◌∷◌, length, Option, Some, None, Result, Ok, Err}
 use Rattle.hpf_lex.specs.declared.refusal.Fault.TheVariants.{TooLong}
 use Rattle.hpf_lex.specs.declared.refusal.MapRefusal.{MapRefusal}
 use Rattle.hpf_lex.specs.declared.refusal.MapError.{MapError}
 use Rattle.hpf_lex.specs.declared.refusal.MapError.TheVariants as errors
 use Rattle.hpf_lex.specs.declared.token.Token.{Token}
+use Rattle.hpf_lex.specs.Order.{least}
 use Rattle.hpf_lex.specs.Statement.{Mark, token, fault, max_text, refusal_at, text_marks}
 
 -- the tokens among marks, and the faults among them
@@ -17,20 +18,6 @@ abbrev pub faults_of : List Mark → List MapRefusal
 faults_of [] = []
 faults_of (token t width ∷ others) = faults_of others
 faults_of (fault f ∷ others) = f ∷ faults_of others
-
--- an earlier line, or an earlier column of one line
-abbrev pub stands_before : MapRefusal → MapRefusal → Bool
-stands_before f g = nat_lt f.line g.line || ((f.line == g.line) && nat_lt f.column g.column)
-
--- the one of two faults that stands first
-abbrev pub least_of : MapRefusal → Option MapRefusal → MapRefusal
-least_of f None = f
-least_of f (Some g) = if stands_before g f then g else f
-
--- the fault with the least place
-abbrev pub least : List MapRefusal → Option MapRefusal
-least [] = None
-least (f ∷ others) = Some (least_of f (least others))
 
 -- these tokens, unless there is a fault
 abbrev pub tokens_or : List Token → Option MapRefusal → Result (List Token) MapRefusal
@@ -62,13 +49,19 @@ Answers (Err (errors.Refused f)) text = HasFault text f
 Answers (Err (errors.Memory e)) text = Unit {0}
 
 -- a fact of the refusal, where there is one
-abbrev pub IfRefused : Result (List Token) MapError → (MapRefusal → Type 0) → Type 0
-IfRefused (Ok tokens) P = Unit {0}
+abbrev pub IfRefused : {A : Type 0} → Result A MapError → (MapRefusal → Type 0) → Type 0
+IfRefused (Ok x) P = Unit {0}
 IfRefused (Err (errors.Refused f)) P = P f
 IfRefused (Err (errors.Memory e)) P = Unit {0}
 
--- an answer is the expected one, unless memory ran out
-abbrev pub IsOrMemory : Result (List Token) MapError → Result (List Token) MapError → Type 0
-IsOrMemory (Ok tokens) expected = Ok tokens ≡ expected
-IsOrMemory (Err (errors.Refused f)) expected = Err (errors.Refused f) ≡ expected
-IsOrMemory (Err (errors.Memory e)) expected = Unit {0}
+-- an answer is these tokens, unless memory ran out
+abbrev pub IsRead : Result (List Token) MapError → List Token → Type 0
+IsRead (Ok found) tokens = found ≡ tokens
+IsRead (Err (errors.Refused f)) tokens = ⊥
+IsRead (Err (errors.Memory e)) tokens = Unit {0}
+
+-- an answer is this refusal, unless memory ran out
+abbrev pub IsRefused : {A : Type 0} → Result A MapError → MapRefusal → Type 0
+IsRefused (Ok x) f = ⊥
+IsRefused (Err (errors.Refused g)) f = g ≡ f
+IsRefused (Err (errors.Memory e)) f = Unit {0}

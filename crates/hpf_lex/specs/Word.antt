@@ -1,17 +1,19 @@
 -- How a word is kept.
-use Rattle.std.specs.Prelude.{ℕ, ◌≡◌, ◌≤◌, ◌-◌, List, ◌++◌, length, take, drop, replicate}
+use Rattle.std.specs.Prelude.{ℕ, ◌≡◌, ◌≤◌, ◌-◌, List, ◌++◌, length, map, take, drop, replicate}
 use Rattle.std.proofs.Common.{arith, ap, ◌∙◌, take-append-drop}
 use Rattle.std.proofs.lemmas.List.{length-take-le}
+use Rattle.hpf_lex.specs.Bytes.{upper}
 use Rattle.hpf_lex.specs.declared.word.Word.TheInside.{Inside}
 
--- the bytes of a word, without the places behind them
+-- the bytes of a word, without the places behind them: a name's, with letters in upper case
 abbrev pub word_bytes : Inside → List ℕ
 word_bytes w = take w.len w.bytes
 
--- at most 31 bytes, and nothing but zeros behind them
+-- at most 31 bytes, with letters in upper case, and nothing but zeros behind them
 pub record IsPadded (w : Inside) : Type 0 where
   pub size : length w.bytes ≡ 31
   pub fits : w.len ≤ 31
+  pub upper_case : map upper (word_bytes w) ≡ word_bytes w
   pub zeros : drop w.len w.bytes ≡ replicate (31 - w.len) 0
 
 -- a word that has these bytes

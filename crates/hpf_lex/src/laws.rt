@@ -12,10 +12,11 @@ ghost use Rattle.hpf_lex.specs.Bytes.{is_blank};
 ghost use Rattle.hpf_lex.specs.Lexeme.{lexeme_at, number_of, max_number};
 ghost use Rattle.hpf_lex.specs.Cut.{Cut};
 ghost use Rattle.hpf_lex.specs.Follows.{StopsAt, IsProper};
+ghost use Rattle.hpf_lex.specs.Order.{stands_before, comes_before};
 ghost use Rattle.hpf_lex.specs.OneLine.{OneLine, StandFrom, one_line_text, tokens_from};
 ghost use Rattle.hpf_lex.specs.Spelling.{IsNumeral, Spells, IsLongest, word_of, number_in};
 ghost use Rattle.hpf_lex.specs.Statement.{max_text, marks, text_marks};
-ghost use Rattle.hpf_lex.specs.Text.{HasTokens, HasFault, tokens_of, faults_of, stands_before};
+ghost use Rattle.hpf_lex.specs.Text.{HasTokens, HasFault, tokens_of, faults_of};
 
 /// A text has its tokens or a first fault, never both, and one of them alone.
 pub fn one_reading()
@@ -38,6 +39,14 @@ pub fn first_fault()
     ensures first { (text : List ℕ) (f : MapRefusal) → length text ≤ max_text → HasFault text f
         → (others : List MapRefusal) × (faults_of (text_marks text) ≡ f ∷ others)
         × AllByRecursion (λ g. IsTrue (stands_before f g)) others }
+{}
+
+/// Of two different refusals one comes first, and the order goes on from one to the next.
+pub fn order_of_refusals()
+    ensures never_round { (f g : MapRefusal) → IsTrue (comes_before f g) → IsTrue (comes_before g f) → ⊥ }
+    ensures goes_on { (f g h : MapRefusal) → IsTrue (comes_before f g) → IsTrue (comes_before g h)
+        → IsTrue (comes_before f h) }
+    ensures one_first { (f g : MapRefusal) → comes_before f g ≡ false → comes_before g f ≡ false → f ≡ g }
 {}
 
 /// A token is the longest that stands at its place, and a byte that begins no token is called so rightly.
@@ -75,8 +84,11 @@ pub fn proper_tokens()
     ensures { (text : List ℕ) (tokens : List Token) → HasTokens text tokens → AllByRecursion IsProper tokens }
 {}
 
-/// A text of statements on one line each has their tokens.
+/// Statements on one line each have their tokens and no fault, however long their text is. A text of them that isn't too
+/// long has these tokens.
 pub fn one_line_each()
-    ensures { (ss : List OneLine) → StandFrom 1 ss → length (one_line_text ss) ≤ max_text
+    ensures marks { (ss : List OneLine) → StandFrom 1 ss → (faults_of (text_marks (one_line_text ss)) ≡ [])
+        × (tokens_of (text_marks (one_line_text ss)) ≡ tokens_from 1 ss) }
+    ensures tokens { (ss : List OneLine) → StandFrom 1 ss → length (one_line_text ss) ≤ max_text
         → HasTokens (one_line_text ss) (tokens_from 1 ss) }
 {}

@@ -16,10 +16,10 @@ mod word;
 
 pub use laws::{
     cut_into_tokens, first_fault, longest_token, numeral, one_line_each, one_reading,
-    proper_tokens, spelled_token,
+    order_of_refusals, proper_tokens, spelled_token,
 };
 pub use refusal::{Fault, MapError, MapRefusal};
-pub use scan::tokens;
+pub use scan::{MAX_TEXT, tokens};
 pub use token::{Token, TokenKind, Tokens};
 pub use word::Word;
 

@@ -5,7 +5,7 @@ ghost use Rattle.std.specs.List.{prefix_len, suffix_len, before_first, position_
 ghost use Rattle.std.specs.Option.{option_map};
 ghost use Rattle.hpf_lex.specs.Bytes.{is_blank};
 ghost use Rattle.hpf_lex.specs.Line.{lines_of, begins_with, form_of, prefix_width, before_comment, without_blanks_at_end, part_of};
-ghost use Rattle.hpf_lex.specs.Statement.{same_form};
+ghost use Rattle.hpf_lex.specs.Statement.{same_form, max_text};
 ghost use Rattle.hpf_lex.specs.Views.{part_view};
 
 use crate::bytes::{is_blank, upper};
@@ -172,7 +172,7 @@ fn form_of(bytes: &[u8]) -> Option<Form>
 /// The part of a statement that a line has. None where the line is empty or a comment line.
 #[tactic(auto, unfolding(crate::specs::Line::part_of))]
 pub fn part_of(line: u32, bytes: &[u8]) -> Option<LinePart<'_>>
-    requires { length bytes.now ≤ 1048576 }
+    requires { length bytes.now ≤ max_text }
     ensures part { option_map part_view result ≡ part_of line bytes.now }
     ensures fits { IfSome result (λ part. part.column + length part.text.now ≤ length bytes.now + 1) }
     ensures starts { IfSome result (λ part. part.start ≤ length bytes.now + 1) }

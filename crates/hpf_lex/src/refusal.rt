@@ -14,6 +14,18 @@ pub struct MapRefusal {
     pub column: u32,
 }
 
+impl MapRefusal {
+    ghost use Rattle.hpf_lex.specs.Order.{comes_before};
+
+    /// Whether this refusal is told in place of the other: it stands in an earlier line, in an earlier column of one line,
+    /// or at one place with a lesser code.
+    pub fn comes_before(&self, other: &MapRefusal) -> bool
+        ensures { result ≡ comes_before self.now other.now }
+    {
+        (self.line, self.column, self.code) < (other.line, other.column, other.code)
+    }
+}
+
 /// What can be wrong with the bytes of a mapping text.
 #[derive(Clone, Copy, Debug, PartialEq, Eq)]
 pub enum Fault {

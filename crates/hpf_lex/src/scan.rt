@@ -2,7 +2,7 @@
 
 ghost use Rattle.std.specs.Prelude.{◌≡◌, ◌↔◌, List, ◌+◌, ◌<◌, ◌≤◌, ◌^◌, length, IfOk};
 ghost use Rattle.hpf_lex.specs.Statement.{refusal_at, max_text, marks, past_last, place, prefix_kind, prefix_marks, first_marks, later_marks};
-ghost use Rattle.hpf_lex.specs.Text.{HasTokens, HasFault, Answers, IfRefused, IsOrMemory};
+ghost use Rattle.hpf_lex.specs.Text.{HasTokens, HasFault, Answers, IfRefused, IsRead, IsRefused};
 ghost use Rattle.hpf_lex.specs.Views.{part_view};
 ghost use Rattle.hpf_lex.specs.Line.{part_of};
 ghost use Rattle.hpf_lex.specs.declared.token.Token.{Token};
@@ -18,8 +18,8 @@ use crate::refusal::{Fault, MapError, MapRefusal};
 use crate::token::{Token, TokenKind, Tokens};
 use std::alloc::Global;
 
-/// The greatest length of a text.
-const MAX_TEXT: usize = 1048576;
+/// The most bytes that a mapping text has.
+pub const MAX_TEXT: usize = 1_048_576;
 
 /// A statement that goes on behind a line: what kind it is of, the place of the line's `&`, and the place one column
 /// past its last token.
@@ -252,9 +252,9 @@ pub fn tokens(alloc: Global, text: &[u8]) -> Result<Tokens, MapError>
     // A refusal is the text's first fault.
     ensures refused { IfRefused result (λ f. HasFault text.now f) }
     // A text without a fault gives its tokens, unless memory runs out.
-    ensures only_tokens { (tokens : List Token) → HasTokens text.now tokens → IsOrMemory result (Ok tokens) }
+    ensures only_tokens { (tokens : List Token) → HasTokens text.now tokens → IsRead result tokens }
     // A text with a fault is refused with the first one, unless memory runs out.
-    ensures only_fault { (f : MapRefusal) → HasFault text.now f → IsOrMemory result (Err (MapError.Refused f)) }
+    ensures only_fault { (f : MapRefusal) → HasFault text.now f → IsRefused result f }
     // The refusal for the length comes exactly there.
     ensures too_long { (max_text < length text.now)
         ↔ (result ≡ Err (MapError.Refused (refusal_at Fault.TooLong 0 0))) }

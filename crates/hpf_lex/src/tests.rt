@@ -98,9 +98,9 @@ fn outcome(alloc: Global, text: &[u8]) -> Result<(usize, u32, u32), MapError> {
 
 #[test]
 fn long_texts(rt: HostRuntime) -> Result<(), Fail> {
-    let blanks = repeated(rt.alloc(), b' ', b' ', 1048576)?;
+    let blanks = repeated(rt.alloc(), b' ', b' ', MAX_TEXT)?;
     assert_eq!(rt; outcome(rt.alloc(), &blanks)?, (0, 0, 0));
-    let too_long = repeated(rt.alloc(), b' ', b' ', 1048577)?;
+    let too_long = repeated(rt.alloc(), b' ', b' ', MAX_TEXT + 1)?;
     assert!(rt;
         matches!(
             outcome(rt.alloc(), &too_long),
@@ -111,13 +111,13 @@ fn long_texts(rt: HostRuntime) -> Result<(), Fail> {
             }))
         )
     );
-    let one_line = repeated(rt.alloc(), b'A', b' ', 1048576)?;
+    let one_line = repeated(rt.alloc(), b'A', b' ', MAX_TEXT)?;
     assert_eq!(rt; outcome(rt.alloc(), &one_line)?, (524289, 1, 1048576));
-    let one_number = repeated(rt.alloc(), b'0', b'0', 1048576)?;
+    let one_number = repeated(rt.alloc(), b'0', b'0', MAX_TEXT)?;
     assert_eq!(rt; outcome(rt.alloc(), &one_number)?, (2, 1, 1048577));
     let lines = repeated(rt.alloc(), b'A', b'\n', 200000)?;
     assert_eq!(rt; outcome(rt.alloc(), &lines)?, (200000, 100000, 2));
-    let open = repeated(rt.alloc(), b'&', b'\n', 1048576)?;
+    let open = repeated(rt.alloc(), b'&', b'\n', MAX_TEXT)?;
     assert!(rt;
         matches!(
             outcome(rt.alloc(), &open),
@@ -128,6 +128,20 @@ fn long_texts(rt: HostRuntime) -> Result<(), Fail> {
             }))
         )
     );
+    Ok(())
+}
+
+#[test]
+fn an_error_has_a_message(rt: HostRuntime) -> Result<(), Fail> {
+    let refusal = MapRefusal {
+        code: 4,
+        line: 12,
+        column: 3,
+    };
+    let refused = format!(in rt.alloc(); "{}", MapError::Refused(refusal))?;
+    assert_eq!(rt; refused.as_str(), "refused with code 4 at 12:3");
+    let memory = format!(in rt.alloc(); "{}", MapError::Memory(AllocError))?;
+    assert_eq!(rt; memory.as_str(), "out of memory");
     Ok(())
 }
 

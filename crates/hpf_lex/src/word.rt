@@ -68,6 +68,7 @@ impl Word {
     pub fn as_slice(&self) -> &[u8]
         ensures bytes { result.now ≡ self.now }
         ensures few { length self.now ≤ 31 }
+        ensures upper_case { map upper self.now ≡ self.now }
     {
         let len = self.len as usize;
         &self.bytes[..len]

@@ -129,13 +129,18 @@ pub begins_tests : (w : Terminal) (ts : List Token) → begins w ts ≡ member (
 unfolding begins
 begins_tests w ts = or_nothing (same (first_terminal ts) w)
 
+or_other : (a b : Bool) → (a || b) ≡ (b || (a || false))
+or_other true true = refl
+or_other true false = refl
+or_other false b = or_nothing b
+
 or_two : (a b : Bool) → (a || b) ≡ (a || (b || false))
 or_two true b = refl
 or_two false b = or_nothing b
 
-pub triplet_tests : (ts : List Token) → begins_triplet ts ≡ member (first_terminal ts) (terminal.Colon ∷ terminal.DoubleColon ∷ [])
+pub triplet_tests : (ts : List Token) → begins_triplet ts ≡ member (first_terminal ts) (terminal.DoubleColon ∷ terminal.Colon ∷ [])
 unfolding begins
-triplet_tests ts = or_two (same (first_terminal ts) terminal.Colon) (same (first_terminal ts) terminal.DoubleColon)
+triplet_tests ts = or_other (same (first_terminal ts) terminal.Colon) (same (first_terminal ts) terminal.DoubleColon)
 
 or_five : (a b c d e : Bool) → ((((a || b) || c) || d) || e) ≡ (a || (b || (c || (d || (e || false)))))
 or_five true b c d e = refl
@@ -147,7 +152,7 @@ pub expression_tests : (ts : List Token) → begins_expression ts ≡ member (fi
 unfolding begins
 expression_tests ts = or_five (same (first_terminal ts) terminal.Number) (same (first_terminal ts) terminal.Name) (same (first_terminal ts) terminal.LeftParen) (same (first_terminal ts) terminal.Plus) (same (first_terminal ts) terminal.Minus)
 
-apart_nothing : (ws : List Terminal) → apart ws [] ≡ true
+pub apart_nothing : (ws : List Terminal) → apart ws [] ≡ true
 apart_nothing [] = refl
 apart_nothing (w ∷ ws) = apart_nothing ws
 

@@ -15,13 +15,12 @@ use Rattle.hpf_syntax.specs.Reading.{bad_at}
 use Rattle.hpf_syntax.specs.Plain.{ItemTree}
 use Rattle.hpf_syntax.specs.Statements.{text_at}
 use Rattle.hpf_syntax.specs.Rules.{Counted, outside, tokens_of, IsShort}
-use Rattle.hpf_syntax.specs.InOrder.{ALine, IsText}
+use Rattle.hpf_syntax.specs.Grammar.{ALine, IsText}
 use Rattle.hpf_syntax.specs.FirstFault.{SpellsShortly, BeginsText, BeginsShortly, Faults, IsFirstFault}
 use Rattle.hpf_syntax.proofs.Terminals.{false_is_not_true}
 use Rattle.hpf_syntax.proofs.Cuts.{tokens_append, within, cut, cut_append, cut_short}
 use Rattle.hpf_syntax.proofs.Laws.{HasNoEnd, Over}
 use Rattle.hpf_syntax.proofs.Instances.{statement_reads}
-use Rattle.hpf_syntax.proofs.SameRules.{text_in_order, text_published}
 use Rattle.hpf_syntax.proofs.TextLaw.{TextSays, spelled, faulty, texts, text_complete, text_says, texts_text}
 
 -- ---- a text that is cut behind an end is a text
@@ -125,14 +124,14 @@ cut_fault (c ∷ cs) rest x b e = cut_fault_at c cs rest (cut 64 cs rest (Ok x))
 says_found : (ts : List Token) (items : List ItemTree) {o : Result (List ItemTree) BadToken} → TextSays 64 [] ts o → o ≡ Ok items → SpellsShortly ts items
 says_found ts items (spelled cs xs e p short) q =
     let is : xs ≡ items = cc in
-    (cs, text_published items cs (subst (λ (ys : List ItemTree). IsText cs ys) is p), sym e, short)
+    (cs, subst (λ (ys : List ItemTree). IsText cs ys) is p, sym e, short)
 says_found ts items (faulty front ahead xs fault rest e short p over dead) q = absurd cc
 
 pub is_found : (ts : List Token) (items : List ItemTree) → text_at 64 ts ≡ Ok items → SpellsShortly ts items
 is_found ts items e = says_found ts items (text_says 64 ts) e
 
 pub is_read : (ts : List Token) (items : List ItemTree) → SpellsShortly ts items → text_at 64 ts ≡ Ok items
-is_read ts items (cs, p, e, short) = ap (text_at 64) (sym e) ∙ text_complete 64 items cs (text_in_order items cs p) ∙ cut_short 64 cs [] (Ok items) short
+is_read ts items (cs, p, e, short) = ap (text_at 64) (sym e) ∙ text_complete 64 items cs p ∙ cut_short 64 cs [] (Ok items) short
 
 syntax_is_not_long : Syntax ≡ LongExpression → ⊥
 syntax_is_not_long e = absurd cc
@@ -153,14 +152,14 @@ module _ (front : List Counted) (fault : Fault) (t : Token) (tail : List Token) 
 
   none_begins : fault ≡ Syntax → BeginsText (tokens_of front ++ t ∷ []) → ⊥
   none_begins is (other, ahead, items, p, e) =
-      let long = (cut_fault (other ++ ahead) [] items (bad_at fault (t ∷ tokens_of ahead)) (refused_there other ahead items (text_in_order items (other ++ ahead) p) e)).0 in
+      let long = (cut_fault (other ++ ahead) [] items (bad_at fault (t ∷ tokens_of ahead)) (refused_there other ahead items p e)).0 in
       syntax_is_not_long (sym is ∙ long)
 
   none_shortly : BeginsShortly (tokens_of front ++ t ∷ []) → ⊥
   none_shortly (other, ahead, items, p, e, short) =
       let rest : List Token = tokens_of ahead ++ [] in
       let inner : cut 64 ahead [] (Ok items) ≡ Err (bad_at fault (t ∷ tokens_of ahead)) =
-      sym (cut_short 64 other rest (cut 64 ahead [] (Ok items)) short) ∙ sym (cut_append 64 other ahead [] (Ok items)) ∙ refused_there other ahead items (text_in_order items (other ++ ahead) p) e in
+      sym (cut_short 64 other rest (cut 64 ahead [] (Ok items)) short) ∙ sym (cut_append 64 other ahead [] (Ok items)) ∙ refused_there other ahead items p e in
       let left = (cut_fault ahead [] items (bad_at fault (t ∷ tokens_of ahead)) inner).1 in
       absurd (omega (arith, left, length-append (tokens_of ahead) []))
 
@@ -168,7 +167,7 @@ module _ (front : List Counted) (fault : Fault) (t : Token) (tail : List Token) 
   why_faulty ahead xs short p Syntax is over = none_begins (sym is)
   why_faulty ahead xs short p LongExpression is (u, rest, more, e, g) =
       let same_token : u ≡ t = cc in
-      (front, more, xs, text_published xs _ (subst (λ (cs : List Counted). IsText (front ++ cs) xs) (e ∙ ap (λ (v : Token). record { token = v; number = 65 } ∷ more) same_token) p), refl, short)
+      (front, more, xs, subst (λ (cs : List Counted). IsText (front ++ cs) xs) (e ∙ ap (λ (v : Token). record { token = v; number = 65 } ∷ more) same_token) p, refl, short)
 
 -- the first of the tokens that are left is refused
 abbrev pub RefusedAt : List Token → BadToken → Type 0
@@ -179,13 +178,13 @@ says_refused ts b whole was (spelled cs xs e p short) q = absurd cc
 says_refused ts b whole was (faulty front ahead xs fault [] e short p over dead) q =
     let all : ts ≡ tokens_of front = e ∙ append-nil (tokens_of front) in
     let shorter = text_front xs front ahead p (subst AreWhole all whole) in
-    let read : text_at 64 ts ≡ Ok shorter.0 = is_read ts shorter.0 (front, text_published shorter.0 front shorter.1, sym all, short) in
+    let read : text_at 64 ts ≡ Ok shorter.0 = is_read ts shorter.0 (front, shorter.1, sym all, short) in
     absurd (ok_is_not_err (sym read ∙ was))
 says_refused ts b whole was (faulty front ahead xs fault (t ∷ tail) e short p over dead) q =
     let bad_is : bad_at fault (t ∷ tail) ≡ b = cc in
     let place_is : drop (length ts - suc (length tail)) ts ≡ t ∷ tail = ap (λ (us : List Token). drop (length us - suc (length tail)) us) e ∙ drop_front (tokens_of front) (t ∷ tail) in
     subst (λ (z : BadToken). RefusedAt ts z) bad_is
-    (tokens_of front, t, tail, e, record { so_far = (front, ahead, xs, text_published xs (front ++ ahead) p, refl, short); not_on = none_shortly front fault t tail dead; why = why_faulty front fault t tail dead ahead xs short p fault refl over }, place_is)
+    (tokens_of front, t, tail, e, record { so_far = (front, ahead, xs, p, refl, short); not_on = none_shortly front fault t tail dead; why = why_faulty front fault t tail dead ahead xs short p fault refl over }, place_is)
 
 pub is_refused : (ts : List Token) (b : BadToken) → AreWhole ts → text_at 64 ts ≡ Err b → RefusedAt ts b
 is_refused ts b whole was = says_refused ts b whole was (text_says 64 ts) was

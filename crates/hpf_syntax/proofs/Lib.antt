@@ -10,8 +10,10 @@ pub mod Goes
 pub mod Stands
 pub mod ExpressionLaw
 pub mod Choices
-pub mod Instances
+pub mod InOrder
 pub mod SameRules
+pub mod Edges
+pub mod Instances
 pub mod TextLaw
 pub mod FaultLaw
 pub mod Parsing

@@ -8,7 +8,6 @@ use Rattle.hpf_syntax.specs.Rules.{Counted, tokens_of, IsWithin}
 use Rattle.hpf_syntax.specs.Grammar.{IsText}
 use Rattle.hpf_syntax.specs.FirstFault.{Spells}
 use Rattle.hpf_syntax.proofs.Cuts.{cut_short}
-use Rattle.hpf_syntax.proofs.SameRules.{text_in_order}
 use Rattle.hpf_syntax.proofs.TextLaw.{text_complete}
 
 -- a limit that no number passes
@@ -22,7 +21,7 @@ within_limit max [] le = tt
 within_limit max (c ∷ cs) le = (omega (arith, le), within_limit max cs (omega (arith, le)))
 
 read_so : (max : ℕ) (items : List ItemTree) (cs : List Counted) → IsText cs items → limit_of cs ≤ max → text_at max (tokens_of cs) ≡ Ok items
-read_so max items cs p le = text_complete max items cs (text_in_order items cs p) ∙ cut_short max cs [] (Ok items) (within_limit max cs le)
+read_so max items cs p le = text_complete max items cs p ∙ cut_short max cs [] (Ok items) (within_limit max cs le)
 
 ok_is : {a b : List ItemTree} → ◌≡◌ {A = Result (List ItemTree) BadToken} (Ok a) (Ok b) → a ≡ b
 ok_is e = cc

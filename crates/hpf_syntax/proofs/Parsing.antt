@@ -5,12 +5,13 @@ use Rattle.hpf_lex.specs.declared.token.Token.{Token}
 use Rattle.hpf_lex.specs.declared.refusal.MapError.{MapError}
 use Rattle.hpf_lex.specs.declared.refusal.MapError.TheVariants as answer
 use Rattle.hpf_lex.specs.Whole.{AreWhole}
+use Rattle.hpf_lex.specs.Text.{IfRefused, IsRefused}
 use Rattle.hpf_syntax.specs.declared.tree.Item.{Item}
 use Rattle.hpf_syntax.specs.declared.stop.BadToken.{BadToken}
 use Rattle.hpf_syntax.specs.Plain.{ItemTree, item_tree}
 use Rattle.hpf_syntax.specs.Statements.{text_at}
 use Rattle.hpf_syntax.specs.FirstFault.{SpellsShortly, code_of, IsRefusalOf}
-use Rattle.hpf_syntax.specs.Refusal.{Refuses, refusal_at, IfRefused, IsRead, IsRefused}
+use Rattle.hpf_syntax.specs.Refusal.{Refuses, refusal_at, IsRead}
 use Rattle.hpf_lex.specs.declared.refusal.MapRefusal.{MapRefusal}
 use Rattle.hpf_syntax.proofs.OneFault.{no_fault, one_refusal}
 use Rattle.hpf_syntax.proofs.FaultLaw.{is_found, is_read, is_refused}

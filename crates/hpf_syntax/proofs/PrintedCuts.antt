@@ -11,8 +11,16 @@ use Rattle.hpf_lex.specs.Spelling.{Spells, word_of, number_in}
 use Rattle.hpf_lex.specs.Follows.{goes_on, StopsAt}
 use Rattle.hpf_lex.specs.Cut.{Cut, blank, token}
 use Rattle.hpf_lex.specs.Statement.{token_at}
-use Rattle.hpf_syntax.specs.Printing.{StopsName, IsCut}
 use Rattle.hpf_syntax.proofs.Lexing.{Lexing}
+
+-- nothing, or bytes the first of which is no letter, digit or `_`
+abbrev pub StopsName : List ℕ → Type 0
+StopsName [] = Unit {0}
+StopsName (c ∷ rest) = is_name_byte c ≡ false
+
+-- from this place on these bytes are cut into these tokens, whatever stands behind them that stops the last of them
+abbrev pub IsCut : ℕ → ℕ → (List ℕ → Type 0) → List ℕ → List Token → Type 0
+IsCut line column stops bytes tokens = (rest : List ℕ) (later : List Token) → stops rest → Cut line (column + length bytes) rest later → Cut line column (bytes ++ rest) (tokens ++ later)
 
 -- what is found where a token of this kind is spelled so, and that token at a place
 abbrev pub found_as : TokenKind → List ℕ → Lexeme

@@ -5,14 +5,15 @@ use Rattle.std.proofs.lemmas.List.{append-nil}
 use Rattle.hpf_syntax.specs.declared.tree.Spot.{Spot}
 use Rattle.hpf_syntax.specs.Plain.{Tree, BoundTree, bound_of, DeclaredTree, ValueTree, One, Many, ConstantTree, ItemTree, Variables, Constants}
 use Rattle.hpf_syntax.specs.Rules.{Counted, Separated}
-use Rattle.hpf_syntax.specs.Grammar.{ABound, AShape, OwnShape, AVariable, AShaped, ADimension, SomeVariables}
-use Rattle.hpf_syntax.specs.InOrder.{AConstant, AValue, Attributes, BehindDimension, ColonsConstants, Fortran, MoreDimension}
+use Rattle.hpf_syntax.specs.Grammar.{ABound, AConstant, ADimension, AShape, AShaped, AValue, AVariable, Fortran, OwnShape, SomeVariables}
+use Rattle.hpf_syntax.proofs.SameRules.{fortran_in_order, fortran_published}
+use Rattle.hpf_syntax.proofs.InOrder.{Attributes, BehindDimension, ColonsConstants, MoreDimension}
+use Rattle.hpf_syntax.proofs.InOrder as order
 use Rattle.hpf_syntax.specs.Canonical.{parenthesized, listed, name_text, expression_text, colon_text, array_text, bound_text, shape_text, declared_text, value_text, constant_text, dimension_text, before_variables, statement_text}
 use Rattle.hpf_syntax.specs.Placeless.{bare, bare_bound, bare_declared, bare_value, bare_constant, bare_item}
-use Rattle.hpf_syntax.specs.Printing.{StopsName}
 use Rattle.hpf_syntax.proofs.Lexing.{Lexing}
-use Rattle.hpf_syntax.proofs.PrintedCuts.{Clear, clear_stops_name, word_stops, Opens, opens_append}
-use Rattle.hpf_syntax.proofs.PrintedRules.{IsSome, opens_some, Prints, prints_as, prints_before, done_prints, blank_prints, left_prints, right_prints, then_prints, value_prints, sign_prints, sign_then, closed_then}
+use Rattle.hpf_syntax.proofs.PrintedCuts.{StopsName, Clear, clear_stops_name, word_stops, Opens, opens_append}
+use Rattle.hpf_syntax.proofs.PrintedRules.{IsSome, opens_some, Prints, prints_as, prints_before, prints_also, done_prints, blank_prints, left_prints, right_prints, then_prints, value_prints, sign_prints, sign_then, closed_then}
 use Rattle.hpf_syntax.proofs.PrintedEdges.{leads_opens}
 use Rattle.hpf_syntax.proofs.PrintedWords.{comma, comma_closed, equals, equals_closed, implicit, none, integer, dimension, parameter}
 use Rattle.hpf_syntax.proofs.PrintedPieces.{Good, good_parts, given_colon, Element, name_prints, name_opens, expression_prints, expression_leads, separated_prints, enclosed_prints, array_prints, after_colon_prints, colons_prints}
@@ -124,15 +125,15 @@ module _ (laws : Lexing) where
   -- ---- constants
 
   given_prints : {x : ValueTree} {cs : List Counted} → AValue cs x → Good cs → Prints AValue bare_value Clear (value_text x) (bare_value x) × IsSome (value_text x)
-  given_prints (inl (list, f1, b1, p, (nil, v), e1)) g =
-      subst (λ (x : ValueTree). Prints AValue bare_value Clear (value_text x) (bare_value x) × IsSome (value_text x)) (sym v)
-      (left_prints (value_prints (array_text list) (array_prints laws p (good_parts f1 b1 e1 g).0) (λ es same. ap Many same)), tt)
-  given_prints (inr (e, f1, b1, p, (nil, v), e1)) g =
+  given_prints (inl (e, f1, b1, p, (nil, v), e1)) g =
       let parts = good_parts f1 b1 e1 g in
       subst (λ (x : ValueTree). Prints AValue bare_value Clear (value_text x) (bare_value x) × IsSome (value_text x)) (sym v) (
-        right_prints (value_prints (expression_text e) (prints_before clear_stops_name (expression_prints laws p parts.0)) (λ x same. ap One same)),
+        left_prints (value_prints (expression_text e) (prints_before clear_stops_name (expression_prints laws p parts.0)) (λ x same. ap One same)),
         opens_some (expression_text e) (leads_opens (expression_text e) (expression_leads laws p parts.0)),
       )
+  given_prints (inr (list, f1, b1, p, (nil, v), e1)) g =
+      subst (λ (x : ValueTree). Prints AValue bare_value Clear (value_text x) (bare_value x) × IsSome (value_text x)) (sym v)
+      (right_prints (value_prints (array_text list) (array_prints laws p (good_parts f1 b1 e1 g).0) (λ es same. ap Many same)), tt)
 
   constant_element : Element AConstant bare_constant constant_text
   constant_element cs c (name, f1, b1, p, (shape, f2, b2, q, (at, f3, b3, p3, (value, f4, b4, r, (nil, v), e4), e3), e2), e1) g =
@@ -179,7 +180,7 @@ module _ (laws : Lexing) where
   no_dimension = right_prints (done_prints [] refl)
 
   -- "INTEGER" names
-  plain_variables : (names : List DeclaredTree) (cs : List Counted) → Separated AVariable cs names → Good cs → Prints Fortran bare_item Clear (statement_text (Variables [] names)) (bare_item (Variables [] names))
+  plain_variables : (names : List DeclaredTree) (cs : List Counted) → Separated AVariable cs names → Good cs → Prints order.Fortran bare_item Clear (statement_text (Variables [] names)) (bare_item (Variables [] names))
   plain_variables names cs p g =
       let inside = some_variables [] [] names cs p g refl in
       let text : List ℕ = listed declared_text names in
@@ -189,7 +190,7 @@ module _ (laws : Lexing) where
 
   -- "INTEGER" "," dimension "::" names
   shaped_variables : {common : List BoundTree} {ds : List Counted} → AShape ds common → Good ds → (names : List DeclaredTree) (cs : List Counted) → Separated AVariable cs names → Good cs
-      → Prints Fortran bare_item Clear (statement_text (Variables common names)) (bare_item (Variables common names))
+      → Prints order.Fortran bare_item Clear (statement_text (Variables common names)) (bare_item (Variables common names))
   shaped_variables {common} p g names cs q h =
       let text : List ℕ = listed declared_text names in
       prints_as (ap (λ (bytes : List ℕ). codes "INTEGER" ++ bytes) (ap (λ (bytes : List ℕ). bytes ++ (codes " :: " ++ text)) (dimension_is p) ∙ sym (append_assoc (dimension_text common) (codes " :: ") text) ∙ ap (λ (bytes : List ℕ). bytes ++ text) (before_is p))) refl
@@ -204,7 +205,7 @@ module _ (laws : Lexing) where
 
   -- "INTEGER" "," "PARAMETER" [ "," dimension ] "::" constants
   constants : (common : List BoundTree) → Prints MoreDimension (map bare_bound) Clear (dimension_text common) (map bare_bound common) → (names : List ConstantTree) (cs : List Counted) → Separated AConstant cs names → Good cs
-      → Prints Fortran bare_item Clear (statement_text (Constants common names)) (bare_item (Constants common names))
+      → Prints order.Fortran bare_item Clear (statement_text (Constants common names)) (bare_item (Constants common names))
   constants common dimensions names cs q h =
       let text : List ℕ = codes " :: " ++ listed constant_text names in
       right_prints (sign_then laws (codes ", PARAMETER" ++ (dimension_text common ++ text)) integer (λ at. left_prints
@@ -216,38 +217,41 @@ module _ (laws : Lexing) where
       (λ rest stop. refl))
 
   -- behind "INTEGER" "," dimension
-  behind_dimension : {common : List BoundTree} {ds cs : List Counted} {item : ItemTree} → AShape ds common → Good ds → BehindDimension common cs item → Good cs → Prints Fortran bare_item Clear (statement_text item) (bare_item item)
+  behind_dimension : {common : List BoundTree} {ds cs : List Counted} {item : ItemTree} → AShape ds common → Good ds → BehindDimension common cs item → Good cs → Prints order.Fortran bare_item Clear (statement_text item) (bare_item item)
   behind_dimension {common} p h (inl (at, f1, b1, p1, (at', f2, b2, p2, (at'', f3, b3, p3, (names, f4, b4, q, (nil, v), e4), e3), e2), e1)) g =
       let three = good_parts f3 b3 e3 (good_parts f2 b2 e2 (good_parts f1 b1 e1 g).1).1 in
-      subst (λ (x : ItemTree). Prints Fortran bare_item Clear (statement_text x) (bare_item x)) (sym v)
+      subst (λ (x : ItemTree). Prints order.Fortran bare_item Clear (statement_text x) (bare_item x)) (sym v)
       (constants common (more_dimension p h) names f4 q (good_parts f4 b4 e4 three.1).0)
   behind_dimension {common} p h (inr (at, f1, b1, p1, (names, f2, b2, q, (nil, v), e2), e1)) g =
-      subst (λ (x : ItemTree). Prints Fortran bare_item Clear (statement_text x) (bare_item x)) (sym v)
+      subst (λ (x : ItemTree). Prints order.Fortran bare_item Clear (statement_text x) (bare_item x)) (sym v)
       (shaped_variables p h names f2 q (good_parts f2 b2 e2 (good_parts f1 b1 e1 g).1).0)
 
   -- behind "INTEGER" ","
-  attributes : {cs : List Counted} {item : ItemTree} → Attributes cs item → Good cs → Prints Fortran bare_item Clear (statement_text item) (bare_item item)
+  attributes : {cs : List Counted} {item : ItemTree} → Attributes cs item → Good cs → Prints order.Fortran bare_item Clear (statement_text item) (bare_item item)
   attributes (inl (common, f1, b1, (at, f2, b2, p2, p, e2), q, e1)) g =
       let one = good_parts f1 b1 e1 g in
       behind_dimension p (good_parts f2 b2 e2 one.0).1 q one.1
   attributes (inr (at, f1, b1, p1, (common, f2, b2, p, (at', f3, b3, p3, (names, f4, b4, q, (nil, v), e4), e3), e2), e1)) g =
       let two = good_parts f2 b2 e2 (good_parts f1 b1 e1 g).1 in
       let four = good_parts f4 b4 e4 (good_parts f3 b3 e3 two.1).1 in
-      subst (λ (x : ItemTree). Prints Fortran bare_item Clear (statement_text x) (bare_item x)) (sym v)
+      subst (λ (x : ItemTree). Prints order.Fortran bare_item Clear (statement_text x) (bare_item x)) (sym v)
       (constants common (dimensions p two.0) names f4 q four.0)
     where
       dimensions : {common : List BoundTree} {cs : List Counted} → MoreDimension cs common → Good cs → Prints MoreDimension (map bare_bound) Clear (dimension_text common) (map bare_bound common)
       dimensions (inl (at, f1, b1, p1, (at', f2, b2, p2, p, e2), e1)) g = more_dimension p (good_parts f2 b2 e2 (good_parts f1 b1 e1 g).1).1
       dimensions (inr (nil, v)) g = subst (λ (x : List BoundTree). Prints MoreDimension (map bare_bound) Clear (dimension_text x) (map bare_bound x)) (sym v) no_dimension
 
-  pub fortran_prints : {cs : List Counted} {item : ItemTree} → Fortran cs item → Good cs → Prints Fortran bare_item Clear (statement_text item) (bare_item item)
-  fortran_prints (inl (at, f1, b1, p1, (at', f2, b2, p2, (nil, v), e2), e1)) g =
-      subst (λ (x : ItemTree). Prints Fortran bare_item Clear (statement_text x) (bare_item x)) (sym v)
+  in_order_prints : {cs : List Counted} {item : ItemTree} → order.Fortran cs item → Good cs → Prints order.Fortran bare_item Clear (statement_text item) (bare_item item)
+  in_order_prints (inl (at, f1, b1, p1, (at', f2, b2, p2, (nil, v), e2), e1)) g =
+      subst (λ (x : ItemTree). Prints order.Fortran bare_item Clear (statement_text x) (bare_item x)) (sym v)
       (left_prints (sign_then laws (codes " NONE") implicit (λ at''.
       blank_prints (codes "NONE") tt (value_prints (codes "NONE") (prints_before (λ rest stop. word_stops rest (clear_stops_name rest stop)) (sign_prints laws none)) (λ end e. refl)))
       (λ rest stop. refl)))
-  fortran_prints (inr (at, f1, b1, p1, inl (at', f2, b2, p2, p, e2), e1)) g = attributes p (good_parts f2 b2 e2 (good_parts f1 b1 e1 g).1).1
-  fortran_prints (inr (at, f1, b1, p1, inr (colons, f2, b2, p2, (names, f3, b3, q, (nil, v), e3), e2), e1)) g =
+  in_order_prints (inr (at, f1, b1, p1, inl (at', f2, b2, p2, p, e2), e1)) g = attributes p (good_parts f2 b2 e2 (good_parts f1 b1 e1 g).1).1
+  in_order_prints (inr (at, f1, b1, p1, inr (colons, f2, b2, p2, (names, f3, b3, q, (nil, v), e3), e2), e1)) g =
       let two = good_parts f2 b2 e2 (good_parts f1 b1 e1 g).1 in
-      subst (λ (x : ItemTree). Prints Fortran bare_item Clear (statement_text x) (bare_item x)) (sym v)
+      subst (λ (x : ItemTree). Prints order.Fortran bare_item Clear (statement_text x) (bare_item x)) (sym v)
       (plain_variables names f3 q (good_parts f3 b3 e3 two.1).0)
+
+  pub fortran_prints : {cs : List Counted} {item : ItemTree} → Fortran cs item → Good cs → Prints Fortran bare_item Clear (statement_text item) (bare_item item)
+  fortran_prints {cs} {item} p g = prints_also fortran_published (in_order_prints (fortran_in_order cs item p) g)

@@ -1,22 +1,22 @@
 -- Directives, whose canonical bytes are read back.
-use Rattle.std.proofs.Common.{◌≡◌, ℕ, false, List, [], ◌∷◌, ◌++◌, map, Option, Some, None, refl, sym, ap, subst, ◌∙◌, append_assoc, inl, inr}
+use Rattle.std.proofs.Common.{◌≡◌, ℕ, false, List, [], ◌∷◌, ◌++◌, map, Option, Some, None, refl, sym, ap, subst, ◌∙◌, inl, inr}
 use Rattle.std.specs.Prelude.{codes, option_map}
 use Rattle.std.proofs.lemmas.List.{append-nil}
 use Rattle.hpf_lex.specs.declared.line.Form.TheVariants.{Directive}
+use Rattle.hpf_lex.specs.declared.token.TokenKind.TheVariants as kind
 use Rattle.hpf_lex.specs.Bytes.{is_blank}
+use Rattle.hpf_syntax.specs.declared.terminal.Terminal.{Terminal}
 use Rattle.hpf_syntax.specs.declared.terminal.Terminal.TheVariants as terminal
 use Rattle.hpf_syntax.specs.declared.tree.SourceItem.{SourceItem}
 use Rattle.hpf_syntax.specs.declared.tree.Spot.{Spot}
 use Rattle.hpf_syntax.specs.Plain.{FormatTree, SubTree, WidthTree, ItemTree, Processors, Template, Distribute, Align, Shadow}
 use Rattle.hpf_syntax.specs.Rules.{Counted, Rule, Done, ◌>>=◌, Sign, AName}
-use Rattle.hpf_syntax.specs.Grammar.{Names, NamesBehind, Formats, Onto, Sources, Widths}
-use Rattle.hpf_syntax.specs.InOrder.{ADirective, AlignMany, Subs}
+use Rattle.hpf_syntax.specs.Grammar.{Names, OfNames, Formats, Onto, ADistribution, Sources, Subs, AnAlignment, Widths, ADirective}
 use Rattle.hpf_syntax.specs.Canonical.{parenthesized, listed, name_text, declared_text, source_text, sub_text, formats_text, widths_text, sources_text, subs_text, onto_text, with_text, of_names, statement_text}
-use Rattle.hpf_syntax.specs.Placeless.{bare_name, bare_source, bare_sub, bare_item}
-use Rattle.hpf_syntax.specs.Printing.{StopsName}
+use Rattle.hpf_syntax.specs.Placeless.{bare_name, bare_format, bare_source, bare_sub, bare_width, bare_item}
 use Rattle.hpf_syntax.proofs.Lexing.{Lexing}
-use Rattle.hpf_syntax.proofs.PrintedCuts.{Clear, clear_stops_name, opens_append}
-use Rattle.hpf_syntax.proofs.PrintedRules.{IsSome, opens_some, Prints, prints_as, prints_before, done_prints, blank_prints, left_prints, right_prints, then_prints, value_prints, sign_then}
+use Rattle.hpf_syntax.proofs.PrintedCuts.{StopsName, Clear, clear_stops_name, opens_append}
+use Rattle.hpf_syntax.proofs.PrintedRules.{IsSome, IsSign, opens_some, Prints, prints_before, prints_also, done_prints, blank_prints, left_prints, right_prints, then_prints, value_prints, sign_then}
 use Rattle.hpf_syntax.proofs.PrintedWords.{processors, template, distribute, onto, align, with_word, shadow}
 use Rattle.hpf_syntax.proofs.PrintedPieces.{Good, good_parts, name_prints, name_opens, separated_prints, enclosed_prints, names_behind_prints, Stands}
 use Rattle.hpf_syntax.proofs.PrintedDeclarations.{shaped_element}
@@ -36,17 +36,24 @@ sources_or_with : (o : Option (List SourceItem)) (base : Spot) (subs : Option (L
 sources_or_with None base subs rest = refl
 sources_or_with (Some list) base subs rest = refl
 
--- ---- values
+-- ---- values, without places
 
-distribute_value : {a b : List Spot} {c d : List FormatTree} {x y : Option Spot} → a ≡ b → c ≡ d → x ≡ y → Distribute a c x ≡ Distribute b d y
-distribute_value {a} {b} {c} {d} {x} {y} p q r = ap (λ (z : List Spot). Distribute z c x) p ∙ ap (λ (z : List FormatTree). Distribute b z x) q ∙ ap (λ (z : Option Spot). Distribute b d z) r
+abbrev bare_distribution : List FormatTree × Option Spot → List FormatTree × Option Spot
+bare_distribution (formats, onto) = (map bare_format formats, option_map bare_name onto)
 
-align_value : {a b : List Spot} {c d : Option (List SourceItem)} {m n : Spot} {x y : Option (List SubTree)} → a ≡ b → c ≡ d → m ≡ n → x ≡ y → Align a c m x ≡ Align b d n y
-align_value {a} {b} {c} {d} {m} {n} {x} {y} p q r s =
-    ap (λ (z : List Spot). Align z c m x) p ∙ ap (λ (z : Option (List SourceItem)). Align b z m x) q ∙ ap (λ (z : Spot). Align b d z x) r ∙ ap (λ (z : Option (List SubTree)). Align b d n z) s
+distribution_value : {a b : List FormatTree} {x y : Option Spot} → a ≡ b → x ≡ y → ◌≡◌ {A = List FormatTree × Option Spot} (a, x) (b, y)
+distribution_value {a} {b} {x} {y} p q = ap (λ (z : List FormatTree). (z, x)) p ∙ ap (λ (z : Option Spot). (b, z)) q
 
-shadow_value : {a b : List Spot} {c d : List WidthTree} → a ≡ b → c ≡ d → Shadow a c ≡ Shadow b d
-shadow_value {a} {b} {c} {d} p q = ap (λ (z : List Spot). Shadow z c) p ∙ ap (λ (z : List WidthTree). Shadow b z) q
+abbrev Alignment : Type 0
+Alignment = Option (List SourceItem) × Spot × Option (List SubTree)
+
+abbrev bare_alignment : Alignment → Alignment
+bare_alignment (sources, base, subs) = (option_map (map bare_source) sources, bare_name base, option_map (map bare_sub) subs)
+
+alignment_value : {a b : Option (List SourceItem)} {m n : Spot} {x y : Option (List SubTree)} → a ≡ b → m ≡ n → x ≡ y → ◌≡◌ {A = Alignment} (a, m, x) (b, n, y)
+alignment_value {a} {b} {m} {n} {x} {y} p q r = ap (λ (z : Option (List SourceItem)). make z m x) p ∙ ap (λ (z : Spot). make b z x) q ∙ ap (λ (z : Option (List SubTree)). make b n z) r where
+  make : Option (List SourceItem) → Spot → Option (List SubTree) → Alignment
+  make sources base subs = (sources, base, subs)
 
 -- what stands between ALIGN and the two colons, behind a blank
 align_alone : Option (List SourceItem) → Spot → Option (List SubTree) → List ℕ
@@ -74,31 +81,85 @@ some_before (c ∷ a) b h = tt
 module _ (laws : Lexing) where
   -- ---- of one name, or of several
 
-  -- What a directive says of one name is said behind it, and of several before them.
-  record SaysOfNames (spelling : List ℕ) (R : Rule ItemTree) (make : List Spot → ItemTree) : Type 0 where
+  -- What a directive says of one name is said behind it, and of several before them. Both are read as the same.
+  record SaysOfNames {A B : Type 0} (X : Rule A) (view : A → B) (x : B) : Type 0 where
     behind : List ℕ
     alone : List ℕ
     some : IsSome alone
-    whole : (names : List Spot) → statement_text (make names) ≡ codes "!HPF$ " ++ (spelling ++ of_names names behind (32 ∷ alone))
-    one : (name : Spot) (cs : List Counted) → AName cs name → Good cs → Prints R bare_item Clear (spelling ++ (32 ∷ (name_text name ++ behind))) (bare_item (make (name ∷ [])))
-    many : (names : List Spot) (cs : List Counted) → Names cs names → Good cs → Prints R bare_item Clear (spelling ++ (32 ∷ (alone ++ (codes " :: " ++ listed name_text names)))) (bare_item (make names))
+    stops : (rest : List ℕ) → StopsName (behind ++ rest)
+    one : Prints X view Clear behind x
+    many : Prints X view Clear alone x
 
-  named_stands : (c : ℕ) (spelling : List ℕ) (make : List Spot → ItemTree) → is_blank c ≡ false → SaysOfNames (c ∷ spelling) ADirective make → (names : List Spot) (cs : List Counted) → Names cs names → Good cs → Stands Directive ADirective (make names)
-  named_stands c spelling make seen says [] cs p g = absurd p
-  named_stands c spelling make seen says (name ∷ []) cs (front, back, p, more, e) g = record {
-    text = c ∷ (spelling ++ (32 ∷ (name_text name ++ says.behind)));
-    whole = says.whole (name ∷ []);
-    begins = seen;
-    some = tt;
-    prints = says.one name front p (good_parts front back e g).0;
-  }
-  named_stands c spelling make seen says (name ∷ other ∷ others) cs p g = record {
-    text = c ∷ (spelling ++ (32 ∷ (says.alone ++ (codes " :: " ++ listed name_text (name ∷ other ∷ others)))));
-    whole = says.whole (name ∷ other ∷ others);
-    begins = seen;
-    some = tt;
-    prints = says.many (name ∷ other ∷ others) cs p g;
-  }
+  -- names, and what is said of them, without places
+  abbrev named : {A B : Type 0} → (A → B) → List Spot × A → List Spot × B
+  named view (names, x) = (map bare_name names, view x)
+
+  named_value : {B : Type 0} {ns ms : List Spot} {x y : B} → ns ≡ ms → x ≡ y → ◌≡◌ {A = List Spot × B} (ns, x) (ms, y)
+  named_value {B} {ns} {ms} {x} {y} p q = ap (λ (l : List Spot). pair l x) p ∙ ap (pair ms) q where
+    pair : List Spot → B → List Spot × B
+    pair l z = (l, z)
+
+  one_prints : {A B : Type 0} {X : Rule A} {view : A → B} {x : B} (says : SaysOfNames X view x) (name : Spot) (cs : List Counted) → AName cs name → Good cs
+      → Prints (OfNames X) (named view) Clear (name_text name ++ says.behind) (map bare_name (name ∷ []), x)
+  one_prints says name cs p g =
+      left_prints (then_prints (name_text name) says.behind (name_prints laws p g) (λ n samen. value_prints says.behind says.one (λ y same. named_value (ap (λ (z : Spot). z ∷ []) samen) same)) (λ rest stop. says.stops rest))
+
+  many_prints : {A B : Type 0} {X : Rule A} {view : A → B} {x : B} (says : SaysOfNames X view x) (names : List Spot) (cs : List Counted) → Names cs names → Good cs
+      → Prints (OfNames X) (named view) Clear (says.alone ++ (codes " :: " ++ listed name_text names)) (map bare_name names, x)
+  many_prints says names cs p g =
+      let behind : List ℕ = codes " :: " ++ listed name_text names in
+      right_prints (then_prints says.alone behind says.many (λ y same. value_prints behind (names_behind_prints laws names cs p g) (λ ns samen. named_value samen same)) (λ rest stop. (refl, refl)))
+
+  -- a directive that says so of names
+  record Directs {A B : Type 0} (X : Rule A) (view : A → B) (word : Terminal) (make : List Spot × A → ItemTree) (c : ℕ) (spelling : List ℕ) : Type 0 where
+    spelled : IsSign word kind.Word (c ∷ spelling)
+    begins : is_blank c ≡ false
+    among : (cs : List Counted) (x : ItemTree) → (Sign word >>= λ at. OfNames X >>= λ said. Done (make said)) cs x → ADirective cs x
+    alike : (p q : List Spot × A) → named view p ≡ named view q → bare_item (make p) ≡ bare_item (make q)
+
+  directs : {A B : Type 0} {X : Rule A} {view : A → B} {word : Terminal} {make : List Spot × A → ItemTree} {c : ℕ} {spelling : List ℕ} → Directs X view word make c spelling
+      → (text : List ℕ) (names : List Spot) (x : A) → IsSome text → Prints (OfNames X) (named view) Clear text (named view (names, x)) → Prints ADirective bare_item Clear (c ∷ (spelling ++ (32 ∷ text))) (bare_item (make (names, x)))
+  directs d text names x some p =
+      prints_also d.among (sign_then laws (32 ∷ text) d.spelled (λ at. blank_prints text some (value_prints text p (λ q same. d.alike q (names, x) same))) (λ rest stop. refl))
+
+  named_stands : {A B : Type 0} {X : Rule A} {view : A → B} {word : Terminal} {make : List Spot × A → ItemTree} {c : ℕ} {spelling : List ℕ} → Directs X view word make c spelling → {x : A} (says : SaysOfNames X view (view x))
+      → ((names : List Spot) → statement_text (make (names, x)) ≡ codes "!HPF$ " ++ ((c ∷ spelling) ++ of_names names says.behind (32 ∷ says.alone)))
+      → (names : List Spot) (cs : List Counted) → Names cs names → Good cs → Stands Directive ADirective (make (names, x))
+  named_stands d says whole [] cs p g = absurd p
+  named_stands {c = c} {spelling = spelling} d {x} says whole (name ∷ []) cs (front, back, p, more, e) g =
+      let good = (good_parts front back e g).0 in
+      let text : List ℕ = name_text name ++ says.behind in
+      record {
+        text = c ∷ (spelling ++ (32 ∷ text));
+        whole = whole (name ∷ []);
+        begins = d.begins;
+        some = tt;
+        prints = directs d text (name ∷ []) x (opens_some text (opens_append (name_text name) says.behind (name_opens laws p good))) (one_prints says name front p good);
+      }
+  named_stands {c = c} {spelling = spelling} d {x} says whole (name ∷ other ∷ others) cs p g =
+      let names : List Spot = name ∷ other ∷ others in
+      let text : List ℕ = says.alone ++ (codes " :: " ++ listed name_text names) in
+      record {
+        text = c ∷ (spelling ++ (32 ∷ text));
+        whole = whole names;
+        begins = d.begins;
+        some = tt;
+        prints = directs d text names x (some_before says.alone (codes " :: " ++ listed name_text names) says.some) (many_prints says names cs p g);
+      }
+
+  -- the names of a directive, in either of its forms
+  stands_of_names : {A B : Type 0} {X : Rule A} {view : A → B} {word : Terminal} {make : List Spot × A → ItemTree} {c : ℕ} {spelling : List ℕ} → Directs X view word make c spelling
+      → ((x : A) (cs : List Counted) → X cs x → Good cs → (says : SaysOfNames X view (view x)) × ((names : List Spot) → statement_text (make (names, x)) ≡ codes "!HPF$ " ++ ((c ∷ spelling) ++ of_names names says.behind (32 ∷ says.alone))))
+      → {said : List Spot × A} {cs : List Counted} → OfNames X cs said → Good cs → Stands Directive ADirective (make said)
+  stands_of_names {make = make} d says (inl (name, f1, b1, p, (x, f2, b2, q, (nil, v), e2), e1)) g =
+      let one = good_parts f1 b1 e1 g in
+      let said = says x f2 q (good_parts f2 b2 e2 one.1).0 in
+      subst (λ y. Stands Directive ADirective (make y)) (sym v) (named_stands d said.0 said.1 (name ∷ []) f1 (one_name p) one.0)
+  stands_of_names {make = make} d says (inr (x, f1, b1, p, (names, f2, b2, (colons, f3, b3, p3, q, e3), (nil, v), e2), e1)) g =
+      let one = good_parts f1 b1 e1 g in
+      let said = says x f1 p one.0 in
+      let behind = good_parts f3 b3 e3 (good_parts f2 b2 e2 one.1).0 in
+      subst (λ y. Stands Directive ADirective (make y)) (sym v) (named_stands d said.0 said.1 names b3 q behind.1)
 
   -- ---- DISTRIBUTE
 
@@ -112,34 +173,31 @@ module _ (laws : Lexing) where
       (λ rest stop. refl))))
   onto_prints (inr (nil, v)) g = subst (λ (x : Option Spot). Prints Onto (option_map bare_name) Clear (onto_text x) (option_map bare_name x)) (sym v) (right_prints (done_prints None refl))
 
-  distribute_says : {formats : List FormatTree} {fs : List Counted} → Formats fs formats → Good fs → {o : Option Spot} {os : List Counted} → Onto os o → Good os → SaysOfNames (codes "DISTRIBUTE") ADirective (λ names. Distribute names formats o)
-  distribute_says {formats} p g {o} q h =
-      let said : List ℕ = formats_text formats ++ onto_text o in
-      record {
-        behind = said;
-        alone = said;
-        some = tt;
-        whole = λ names. refl;
-        one = λ name cs r k. right_prints (right_prints (left_prints (sign_then laws (32 ∷ (name_text name ++ said)) distribute (λ at. left_prints
-            (blank_prints (name_text name ++ said) (opens_some (name_text name ++ said) (opens_append (name_text name) said (name_opens laws r k)))
-            (then_prints (name_text name) said (name_prints laws r k) (λ n samen.
-            then_prints (formats_text formats) (onto_text o) (enclosed_prints laws (format_element laws) p g) (λ fs samef.
-            value_prints (onto_text o) (onto_prints q h) (λ x samex. distribute_value (ap (λ (y : Spot). y ∷ []) samen) samef samex))
-            (clear_onto o))
-            (λ rest stop. refl))))
-            (λ rest stop. refl))));
-        many = λ names cs r k.
-            let behind : List ℕ = codes " :: " ++ listed name_text names in
-            prints_as (ap (λ (bytes : List ℕ). codes "DISTRIBUTE " ++ bytes) (sym (append_assoc (formats_text formats) (onto_text o) behind))) refl
-            (right_prints (right_prints (left_prints (sign_then laws (32 ∷ (formats_text formats ++ (onto_text o ++ behind))) distribute (λ at. right_prints
-            (blank_prints (formats_text formats ++ (onto_text o ++ behind)) tt
-            (then_prints (formats_text formats) (onto_text o ++ behind) (enclosed_prints laws (format_element laws) p g) (λ fs samef.
-            then_prints (onto_text o) behind (onto_prints q h) (λ x samex.
-            value_prints behind (names_behind_prints laws names cs r k) (λ ns samen. distribute_value samen samef samex))
-            (λ rest stop. (refl, refl)))
-            (λ rest stop. rw (append_assoc (onto_text o) behind rest) (clear_onto o (behind ++ rest) (refl, refl))))))
-            (λ rest stop. refl)))));
-      }
+  distribution_prints : {formats : List FormatTree} {fs : List Counted} → Formats fs formats → Good fs → {o : Option Spot} {os : List Counted} → Onto os o → Good os
+      → Prints ADistribution bare_distribution Clear (formats_text formats ++ onto_text o) (bare_distribution (formats, o))
+  distribution_prints {formats} p g {o} q h =
+      then_prints (formats_text formats) (onto_text o) (enclosed_prints laws (format_element laws) p g) (λ fs samef.
+      value_prints (onto_text o) (onto_prints q h) (λ x samex. distribution_value samef samex))
+      (clear_onto o)
+
+  distribution_says : (d : List FormatTree × Option Spot) (cs : List Counted) → ADistribution cs d → Good cs
+      → (says : SaysOfNames ADistribution bare_distribution (bare_distribution d)) × ((names : List Spot) → statement_text (Distribute names d.0 d.1) ≡ codes "!HPF$ " ++ (codes "DISTRIBUTE" ++ of_names names says.behind (32 ∷ says.alone)))
+  distribution_says d cs (formats, f1, b1, p, (o, f2, b2, q, (nil, v), e2), e1) g =
+      let one = good_parts f1 b1 e1 g in
+      let said = distribution_prints p one.0 q (good_parts f2 b2 e2 one.1).0 in
+      subst (λ (d : List FormatTree × Option Spot). (says : SaysOfNames ADistribution bare_distribution (bare_distribution d)) × ((names : List Spot) → statement_text (Distribute names d.0 d.1) ≡ codes "!HPF$ " ++ (codes "DISTRIBUTE" ++ of_names names says.behind (32 ∷ says.alone)))) (sym v) (
+        record { behind = formats_text formats ++ onto_text o; alone = formats_text formats ++ onto_text o; some = tt; stops = λ rest. refl; one = said; many = said },
+        λ names. refl,
+      )
+
+  distributes : Directs ADistribution bare_distribution terminal.Distribute (λ said. Distribute said.0 said.1.0 said.1.1) 68 (codes "ISTRIBUTE")
+  unfolding is_blank
+  distributes = record {
+    spelled = distribute;
+    begins = refl;
+    among = λ cs x p. inr (inr (inl p));
+    alike = λ p q e. ap (λ (said : List Spot × (List FormatTree × Option Spot)). Distribute said.0 said.1.0 said.1.1) e;
+  }
 
   -- ---- ALIGN
 
@@ -157,97 +215,78 @@ module _ (laws : Lexing) where
       (left_prints (value_prints (parenthesized (listed sub_text list)) inside (λ x same. ap Some same)))
   subs_prints (inr (nil, v)) g = subst (λ (x : Option (List SubTree)). Prints Subs (option_map (map bare_sub)) Clear (subs_text x) (option_map (map bare_sub) x)) (sym v) (right_prints (done_prints None refl))
 
-  -- "WITH" name [ "(" subs ")" ], and what stands behind
-  base_prints : {base : Spot} {bs : List Counted} → AName bs base → Good bs → {subs : Option (List SubTree)} {ss : List Counted} → Subs ss subs → Good ss
-      → {S : Spot → Option (List SubTree) → Rule ItemTree} (behind : List ℕ) {z : ItemTree}
-      → ((b : Spot) (u : Option (List SubTree)) → bare_name b ≡ bare_name base → option_map (map bare_sub) u ≡ option_map (map bare_sub) subs → Prints (S b u) bare_item Clear behind z)
-      → ((rest : List ℕ) → Clear rest → Clear (behind ++ rest))
-      → Prints (Sign terminal.With >>= λ word. (AName >>= λ b. (Subs >>= λ u. S b u))) bare_item Clear (codes "WITH " ++ (name_text base ++ (subs_text subs ++ behind))) z
-  base_prints {base} p g {subs} q h behind next stops =
-      let text : List ℕ = name_text base ++ (subs_text subs ++ behind) in
+  -- "WITH" name [ "(" subs ")" ], behind sources
+  with_prints : {base : Spot} {bs : List Counted} → AName bs base → Good bs → {subs : Option (List SubTree)} {ss : List Counted} → Subs ss subs → Good ss
+      → (sources read : Option (List SourceItem)) → option_map (map bare_source) read ≡ option_map (map bare_source) sources
+      → Prints (Sign terminal.With >>= λ word. (AName >>= λ b. (Subs >>= λ u. Done (read, b, u)))) bare_alignment Clear (codes "WITH " ++ (name_text base ++ subs_text subs)) (bare_alignment (sources, base, subs))
+  with_prints {base} p g {subs} q h sources read same =
+      let text : List ℕ = name_text base ++ subs_text subs in
       sign_then laws (32 ∷ text) with_word (λ at.
-      blank_prints text (opens_some text (opens_append (name_text base) (subs_text subs ++ behind) (name_opens laws p g)))
-      (then_prints (name_text base) (subs_text subs ++ behind) (name_prints laws p g) (λ b same.
-      then_prints (subs_text subs) behind (subs_prints q h) (λ u sames. next b u same sames) stops)
-      (λ rest stop. rw (append_assoc (subs_text subs) behind rest) (subs_or_end subs (behind ++ rest) (stops rest stop)))))
+      blank_prints text (opens_some text (opens_append (name_text base) (subs_text subs) (name_opens laws p g)))
+      (then_prints (name_text base) (subs_text subs) (name_prints laws p g) (λ b sameb.
+      value_prints (subs_text subs) (subs_prints q h) (λ u sameu. alignment_value same sameb sameu))
+      (λ rest stop. subs_or_end subs rest stop)))
       (λ rest stop. refl)
 
-  behind_with : {base : Spot} {bs : List Counted} → AName bs base → Good bs → {subs : Option (List SubTree)} {ss : List Counted} → Subs ss subs → Good ss
-      → (name n : Spot) → bare_name n ≡ bare_name name → (sources read : Option (List SourceItem)) → option_map (map bare_source) read ≡ option_map (map bare_source) sources
-      → Prints (Sign terminal.With >>= λ word. (AName >>= λ b. (Subs >>= λ u. Done (Align (n ∷ []) read b u)))) bare_item Clear (with_text base subs) (bare_item (Align (name ∷ []) sources base subs))
-  behind_with {base} p g {subs} q h name n samen sources read same =
-      prints_as (ap (λ (bytes : List ℕ). codes " WITH " ++ (name_text base ++ bytes)) (append-nil (subs_text subs))) refl
-      (blank_prints (codes "WITH " ++ (name_text base ++ (subs_text subs ++ []))) tt
-      (base_prints p g q h [] (λ b u sameb sameu. done_prints (Align (n ∷ []) read b u) (align_value (ap (λ (y : Spot). y ∷ []) samen) same sameb sameu)) (λ rest stop. stop)))
+  module _ {base : Spot} {bs : List Counted} (p : AName bs base) (g : Good bs) {subs : Option (List SubTree)} {ss : List Counted} (q : Subs ss subs) (h : Good ss) where
+    -- with sources in front, and a blank before WITH
+    sourced_prints : (o : Option (List SourceItem)) {os : List Counted} → Sources os o → Good os → Prints AnAlignment bare_alignment Clear (sources_text [] o ++ with_text base subs) (bare_alignment (o, base, subs))
+    sourced_prints o s j =
+        then_prints (sources_text [] o) (with_text base subs) (sources_prints s j) (λ read same. blank_prints (codes "WITH " ++ (name_text base ++ subs_text subs)) tt (with_prints p g q h o read same)) (λ rest stop. (refl, refl))
 
-  with_names : {base : Spot} {bs : List Counted} → AName bs base → Good bs → {subs : Option (List SubTree)} {ss : List Counted} → Subs ss subs → Good ss
-      → (names : List Spot) (cs : List Counted) → Names cs names → Good cs → (sources read : Option (List SourceItem)) → option_map (map bare_source) read ≡ option_map (map bare_source) sources
-      → Prints (Sign terminal.With >>= λ word. (AName >>= λ b. (Subs >>= λ u. (NamesBehind >>= λ ns. Done (Align ns read b u))))) bare_item Clear ((codes "WITH " ++ (name_text base ++ subs_text subs)) ++ (codes " :: " ++ listed name_text names)) (bare_item (Align names sources base subs))
-  with_names {base} p g {subs} q h names cs r k sources read same =
-      let behind : List ℕ = codes " :: " ++ listed name_text names in
-      prints_as (ap (λ (bytes : List ℕ). codes "WITH " ++ bytes) (sym (append_assoc (name_text base) (subs_text subs) behind))) refl
-      (base_prints p g q h behind (λ b u sameb sameu. value_prints behind (names_behind_prints laws names cs r k) (λ ns samen. align_value samen same sameb sameu)) (λ rest stop. (refl, refl)))
+    -- the same, with no blank before WITH where there are no sources
+    alone_prints : (o : Option (List SourceItem)) {os : List Counted} → Sources os o → Good os → Prints AnAlignment bare_alignment Clear (align_alone o base subs) (bare_alignment (o, base, subs))
+    unfolding align_alone
+    alone_prints None s j =
+        then_prints [] (codes "WITH " ++ (name_text base ++ subs_text subs)) (right_prints (done_prints {view = option_map (map bare_source)} {stops = λ bytes. Unit {0}} None refl)) (λ read same. with_prints p g q h None read same) (λ rest stop. tt)
+    alone_prints (Some list) s j = sourced_prints (Some list) s j
 
-  align_many : {base : Spot} {bs : List Counted} → AName bs base → Good bs → {subs : Option (List SubTree)} {ss : List Counted} → Subs ss subs → Good ss
-      → (names : List Spot) (cs : List Counted) → Names cs names → Good cs → (o : Option (List SourceItem)) {ds : List Counted} → Sources ds o → Good ds
-      → Prints AlignMany bare_item Clear (align_alone o base subs ++ (codes " :: " ++ listed name_text names)) (bare_item (Align names o base subs))
-  unfolding align_alone
-  align_many {base} p g {subs} q h names cs r k None t l =
-      let text : List ℕ = (codes "WITH " ++ (name_text base ++ subs_text subs)) ++ (codes " :: " ++ listed name_text names) in
-      then_prints [] text (right_prints (done_prints {view = option_map (map bare_source)} {stops = λ bytes. Unit {0}} None refl)) (λ read same. with_names p g q h names cs r k None read same) (λ rest stop. tt)
-  align_many {base} p g {subs} q h names cs r k (Some list) t l =
-      let text : List ℕ = (codes "WITH " ++ (name_text base ++ subs_text subs)) ++ (codes " :: " ++ listed name_text names) in
-      prints_as (sym (append_assoc (parenthesized (listed source_text list)) (with_text base subs) (codes " :: " ++ listed name_text names))) refl
-      (then_prints (parenthesized (listed source_text list)) (32 ∷ text) (sources_prints t l) (λ read same. blank_prints text tt (with_names p g q h names cs r k (Some list) read same)) (λ rest stop. (refl, refl)))
-
-  align_says : {sources : Option (List SourceItem)} {cs : List Counted} → Sources cs sources → Good cs → {base : Spot} {bs : List Counted} → AName bs base → Good bs → {subs : Option (List SubTree)} {ss : List Counted} → Subs ss subs → Good ss
-      → SaysOfNames (codes "ALIGN") ADirective (λ names. Align names sources base subs)
-  align_says {sources} s j {base} p g {subs} q h =
+  alignment_says : (a : Alignment) (cs : List Counted) → AnAlignment cs a → Good cs
+      → (says : SaysOfNames AnAlignment bare_alignment (bare_alignment a)) × ((names : List Spot) → statement_text (Align names a.0 a.1 a.2) ≡ codes "!HPF$ " ++ (codes "ALIGN" ++ of_names names says.behind (32 ∷ says.alone)))
+  alignment_says a cs (sources, f1, b1, s, (word, f2, b2, p2, (base, f3, b3, p, (subs, f4, b4, q, (nil, v), e4), e3), e2), e1) g =
+      let one = good_parts f1 b1 e1 g in
+      let three = good_parts f3 b3 e3 (good_parts f2 b2 e2 one.1).1 in
+      let four = good_parts f4 b4 e4 three.1 in
       let said : List ℕ = sources_text [] sources ++ with_text base subs in
-      record {
-        behind = said;
-        alone = align_alone sources base subs;
-        some = align_alone_some sources base subs;
-        whole = λ names. ap (λ (bytes : List ℕ). codes "!HPF$ ALIGN" ++ of_names names said bytes) (align_alone_is sources base subs);
-        one = λ name cs r k. right_prints (right_prints (right_prints (left_prints (sign_then laws (32 ∷ (name_text name ++ said)) align (λ at. left_prints
-            (blank_prints (name_text name ++ said) (opens_some (name_text name ++ said) (opens_append (name_text name) said (name_opens laws r k)))
-            (then_prints (name_text name) said (name_prints laws r k) (λ n samen.
-            then_prints (sources_text [] sources) (with_text base subs) (sources_prints s j) (λ l samel.
-            behind_with p g q h name n samen sources l samel)
-            (λ rest stop. (refl, refl)))
-            (λ rest stop. sources_or_with sources base subs rest))))
-            (λ rest stop. refl)))));
-        many = λ names cs r k. right_prints (right_prints (right_prints (left_prints (sign_then laws (32 ∷ (align_alone sources base subs ++ (codes " :: " ++ listed name_text names))) align (λ at. right_prints
-            (blank_prints (align_alone sources base subs ++ (codes " :: " ++ listed name_text names)) (some_before (align_alone sources base subs) (codes " :: " ++ listed name_text names) (align_alone_some sources base subs))
-            (align_many p g q h names cs r k sources s j)))
-            (λ rest stop. refl)))));
-      }
+      subst (λ (a : Alignment). (says : SaysOfNames AnAlignment bare_alignment (bare_alignment a)) × ((names : List Spot) → statement_text (Align names a.0 a.1 a.2) ≡ codes "!HPF$ " ++ (codes "ALIGN" ++ of_names names says.behind (32 ∷ says.alone)))) (sym v) (
+        record {
+          behind = said;
+          alone = align_alone sources base subs;
+          some = align_alone_some sources base subs;
+          stops = sources_or_with sources base subs;
+          one = sourced_prints p three.0 q four.0 sources s one.0;
+          many = alone_prints p three.0 q four.0 sources s one.0;
+        },
+        λ names. ap (λ (bytes : List ℕ). codes "!HPF$ ALIGN" ++ of_names names said bytes) (align_alone_is sources base subs),
+      )
+
+  aligns : Directs AnAlignment bare_alignment terminal.Align (λ said. Align said.0 said.1.0 said.1.1 said.1.2) 65 (codes "LIGN")
+  unfolding is_blank
+  aligns = record {
+    spelled = align;
+    begins = refl;
+    among = λ cs x p. inr (inr (inr (inl p)));
+    alike = λ p q e. ap (λ (said : List Spot × Alignment). Align said.0 said.1.0 said.1.1 said.1.2) e;
+  }
 
   -- ---- SHADOW
 
-  shadow_says : {widths : List WidthTree} {ws : List Counted} → Widths ws widths → Good ws → SaysOfNames (codes "SHADOW") ADirective (λ names. Shadow names widths)
-  shadow_says {widths} p g =
-      let said : List ℕ = widths_text widths in
-      record {
-        behind = said;
-        alone = said;
-        some = tt;
-        whole = λ names. refl;
-        one = λ name cs r k. right_prints (right_prints (right_prints (right_prints (sign_then laws (32 ∷ (name_text name ++ said)) shadow (λ at. left_prints
-            (blank_prints (name_text name ++ said) (opens_some (name_text name ++ said) (opens_append (name_text name) said (name_opens laws r k)))
-            (then_prints (name_text name) said (name_prints laws r k) (λ n samen.
-            value_prints said (enclosed_prints laws (width_element laws) p g) (λ ws samew. shadow_value (ap (λ (y : Spot). y ∷ []) samen) samew))
-            (λ rest stop. refl))))
-            (λ rest stop. refl)))));
-        many = λ names cs r k.
-            let behind : List ℕ = codes " :: " ++ listed name_text names in
-            right_prints (right_prints (right_prints (right_prints (sign_then laws (32 ∷ (said ++ behind)) shadow (λ at. right_prints
-            (blank_prints (said ++ behind) tt
-            (then_prints said behind (enclosed_prints laws (width_element laws) p g) (λ ws samew.
-            value_prints behind (names_behind_prints laws names cs r k) (λ ns samen. shadow_value samen samew))
-            (λ rest stop. (refl, refl)))))
-            (λ rest stop. refl)))));
-      }
+  widths_say : (widths : List WidthTree) (cs : List Counted) → Widths cs widths → Good cs
+      → (says : SaysOfNames Widths (map bare_width) (map bare_width widths)) × ((names : List Spot) → statement_text (Shadow names widths) ≡ codes "!HPF$ " ++ (codes "SHADOW" ++ of_names names says.behind (32 ∷ says.alone)))
+  widths_say widths cs p g =
+      let said = enclosed_prints laws (width_element laws) p g in (
+        record { behind = widths_text widths; alone = widths_text widths; some = tt; stops = λ rest. refl; one = said; many = said },
+        λ names. refl,
+      )
+
+  shadows : Directs Widths (map bare_width) terminal.Shadow (λ said. Shadow said.0 said.1) 83 (codes "HADOW")
+  unfolding is_blank
+  shadows = record {
+    spelled = shadow;
+    begins = refl;
+    among = λ cs x p. inr (inr (inr (inr p)));
+    alike = λ p q e. ap (λ (said : List Spot × List WidthTree). Shadow said.0 said.1) e;
+  }
 
   -- ---- all directives
 
@@ -275,39 +314,9 @@ module _ (laws : Lexing) where
         some = tt;
         prints = right_prints (left_prints (sign_then laws (32 ∷ text) template (λ at'. blank_prints text (opens_some text inside.1) (value_prints text inside.0 (λ ds same. ap Template same))) (λ rest stop. refl)));
       })
-  directive_stands (inr (inr (inl (at, f1, b1, p1, inl (name, f2, b2, p, (formats, f3, b3, q, (o, f4, b4, r, (nil, v), e4), e3), e2), e1)))) g =
-      let two = good_parts f2 b2 e2 (good_parts f1 b1 e1 g).1 in
-      let three = good_parts f3 b3 e3 two.1 in
-      let four = good_parts f4 b4 e4 three.1 in
-      subst (λ (x : ItemTree). Stands Directive ADirective x) (sym v)
-      (named_stands 68 (codes "ISTRIBUTE") (λ names. Distribute names formats o) refl (distribute_says q three.0 r four.0) (name ∷ []) f2 (one_name p) two.0)
-  directive_stands (inr (inr (inl (at, f1, b1, p1, inr (formats, f3, b3, q, (o, f4, b4, r, (names, f5, b5, (colons, f6, b6, p6, p, e6), (nil, v), e5), e4), e3), e1)))) g =
-      let three = good_parts f3 b3 e3 (good_parts f1 b1 e1 g).1 in
-      let four = good_parts f4 b4 e4 three.1 in
-      let six = good_parts f6 b6 e6 (good_parts f5 b5 e5 four.1).0 in
-      subst (λ (x : ItemTree). Stands Directive ADirective x) (sym v)
-      (named_stands 68 (codes "ISTRIBUTE") (λ names. Distribute names formats o) refl (distribute_says q three.0 r four.0) names b6 p six.1)
-  directive_stands (inr (inr (inr (inl (at, f1, b1, p1, inl (name, f2, b2, p, (sources, f3, b3, s, (word, f4, b4, p4, (base, f5, b5, q, (subs, f6, b6, r, (nil, v), e6), e5), e4), e3), e2), e1))))) g =
-      let two = good_parts f2 b2 e2 (good_parts f1 b1 e1 g).1 in
-      let three = good_parts f3 b3 e3 two.1 in
-      let five = good_parts f5 b5 e5 (good_parts f4 b4 e4 three.1).1 in
-      let six = good_parts f6 b6 e6 five.1 in
-      subst (λ (x : ItemTree). Stands Directive ADirective x) (sym v)
-      (named_stands 65 (codes "LIGN") (λ names. Align names sources base subs) refl (align_says s three.0 q five.0 r six.0) (name ∷ []) f2 (one_name p) two.0)
-  directive_stands (inr (inr (inr (inl (at, f1, b1, p1, inr (sources, f3, b3, s, (word, f4, b4, p4, (base, f5, b5, q, (subs, f6, b6, r, (names, f7, b7, (colons, f8, b8, p8, p, e8), (nil, v), e7), e6), e5), e4), e3), e1))))) g =
-      let three = good_parts f3 b3 e3 (good_parts f1 b1 e1 g).1 in
-      let five = good_parts f5 b5 e5 (good_parts f4 b4 e4 three.1).1 in
-      let six = good_parts f6 b6 e6 five.1 in
-      let eight = good_parts f8 b8 e8 (good_parts f7 b7 e7 six.1).0 in
-      subst (λ (x : ItemTree). Stands Directive ADirective x) (sym v)
-      (named_stands 65 (codes "LIGN") (λ names. Align names sources base subs) refl (align_says s three.0 q five.0 r six.0) names b8 p eight.1)
-  directive_stands (inr (inr (inr (inr (at, f1, b1, p1, inl (name, f2, b2, p, (widths, f3, b3, q, (nil, v), e3), e2), e1))))) g =
-      let two = good_parts f2 b2 e2 (good_parts f1 b1 e1 g).1 in
-      let three = good_parts f3 b3 e3 two.1 in
-      subst (λ (x : ItemTree). Stands Directive ADirective x) (sym v)
-      (named_stands 83 (codes "HADOW") (λ names. Shadow names widths) refl (shadow_says q three.0) (name ∷ []) f2 (one_name p) two.0)
-  directive_stands (inr (inr (inr (inr (at, f1, b1, p1, inr (widths, f3, b3, q, (names, f5, b5, (colons, f6, b6, p6, p, e6), (nil, v), e5), e3), e1))))) g =
-      let three = good_parts f3 b3 e3 (good_parts f1 b1 e1 g).1 in
-      let six = good_parts f6 b6 e6 (good_parts f5 b5 e5 three.1).0 in
-      subst (λ (x : ItemTree). Stands Directive ADirective x) (sym v)
-      (named_stands 83 (codes "HADOW") (λ names. Shadow names widths) refl (shadow_says q three.0) names b6 p six.1)
+  directive_stands (inr (inr (inl (at, f1, b1, p1, (said, f2, b2, p, (nil, v), e2), e1)))) g =
+      subst (λ (x : ItemTree). Stands Directive ADirective x) (sym v) (stands_of_names distributes distribution_says p (good_parts f2 b2 e2 (good_parts f1 b1 e1 g).1).0)
+  directive_stands (inr (inr (inr (inl (at, f1, b1, p1, (said, f2, b2, p, (nil, v), e2), e1))))) g =
+      subst (λ (x : ItemTree). Stands Directive ADirective x) (sym v) (stands_of_names aligns alignment_says p (good_parts f2 b2 e2 (good_parts f1 b1 e1 g).1).0)
+  directive_stands (inr (inr (inr (inr (at, f1, b1, p1, (said, f2, b2, p, (nil, v), e2), e1))))) g =
+      subst (λ (x : ItemTree). Stands Directive ADirective x) (sym v) (stands_of_names shadows widths_say p (good_parts f2 b2 e2 (good_parts f1 b1 e1 g).1).0)

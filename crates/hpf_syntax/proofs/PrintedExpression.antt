@@ -19,10 +19,9 @@ use Rattle.hpf_syntax.specs.Expressions.{Part, Expression, Term, Factor, IsA, nu
 use Rattle.hpf_syntax.specs.Expressions as grammar
 use Rattle.hpf_syntax.specs.Canonical.{parenthesized, guarded, is_sum, is_product, expression_text}
 use Rattle.hpf_syntax.specs.Placeless.{nowhere, bare}
-use Rattle.hpf_syntax.specs.Printing.{StopsName, IsCut}
 use Rattle.hpf_syntax.proofs.Terminals.{false_is_not_true}
 use Rattle.hpf_syntax.proofs.Lexing.{Lexing}
-use Rattle.hpf_syntax.proofs.PrintedCuts.{spelled_token, word_stops, number_stops, IsClosed, closed_stops, opens_append, paren_stops, cut_before, cut_append, cut_token}
+use Rattle.hpf_syntax.proofs.PrintedCuts.{StopsName, IsCut, spelled_token, word_stops, number_stops, IsClosed, closed_stops, opens_append, paren_stops, cut_before, cut_append, cut_token}
 use Rattle.hpf_syntax.proofs.PrintedRules.{IsSign}
 use Rattle.hpf_syntax.proofs.PrintedWords as words
 use Rattle.hpf_syntax.proofs.PrintedRoom.{IsWritten, IsSound, sound, room_of, count, needs, room, room_fits}

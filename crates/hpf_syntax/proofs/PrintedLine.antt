@@ -16,7 +16,7 @@ use Rattle.hpf_syntax.specs.declared.terminal.Terminal.TheVariants as terminal
 use Rattle.hpf_syntax.specs.Terminal.{kind_terminal, token_terminal, Is}
 use Rattle.hpf_syntax.specs.Plain.{ItemTree, ImplicitNone, Variables, Constants, Processors, Template, Distribute, Align, Shadow, Input, Stage, place}
 use Rattle.hpf_syntax.specs.Rules.{Counted, outside, tokens_of, Rule, IsShort}
-use Rattle.hpf_syntax.specs.InOrder.{ALine, AStatement}
+use Rattle.hpf_syntax.specs.Grammar.{ALine, AStatement}
 use Rattle.hpf_syntax.specs.Canonical.{statement_text, line_text}
 use Rattle.hpf_syntax.specs.Placeless.{bare_item}
 use Rattle.hpf_syntax.proofs.Cuts.{tokens_append, tokens_append_rest, short_append}
@@ -98,15 +98,15 @@ line_of form {R} {item} stands line first front short is =
 
 module _ (laws : Lexing) where
   statement_prints : {cs : List Counted} {item : ItemTree} → AStatement cs item → Good cs → (line : ℕ) → IsLineOf item line
-  statement_prints (inl (at, f1, b1, p1, p, e1)) g line =
-      let t : Token = bare_token kind.Hpf line 1 in
-      line_of form.Directive (directive_stands laws p (good_parts f1 b1 e1 g).1) line (outside t ∷ []) refl (zero-le, tt) (λ ds x q. inl (place t, outside t ∷ [], ds, (t, hpf_is line 1, refl, refl), q, refl))
   statement_prints (inr (inl (at, f1, b1, p1, p, e1))) g line =
+      let t : Token = bare_token kind.Hpf line 1 in
+      line_of form.Directive (directive_stands laws p (good_parts f1 b1 e1 g).1) line (outside t ∷ []) refl (zero-le, tt) (λ ds x q. inr (inl (place t, outside t ∷ [], ds, (t, hpf_is line 1, refl, refl), q, refl)))
+  statement_prints (inr (inr (at, f1, b1, p1, p, e1))) g line =
       let t : Token = bare_token kind.Pipe line 1 in
-      line_of form.Pipeline (pipeline_stands laws p (good_parts f1 b1 e1 g).1) line (outside t ∷ []) refl (zero-le, tt) (λ ds x q. inr (inl (place t, outside t ∷ [], ds, (t, pipe_is line 1, refl, refl), q, refl)))
-  statement_prints {cs} {item} (inr (inr p)) g line =
+      line_of form.Pipeline (pipeline_stands laws p (good_parts f1 b1 e1 g).1) line (outside t ∷ []) refl (zero-le, tt) (λ ds x q. inr (inr (place t, outside t ∷ [], ds, (t, pipe_is line 1, refl, refl), q, refl)))
+  statement_prints {cs} {item} (inl p) g line =
       let begins = statement_begins item in
-      line_of form.Fortran (record { text = statement_text item; whole = refl; begins = begins.0; some = begins.1; prints = fortran_prints laws p g }) line [] refl tt (λ ds x q. inr (inr q))
+      line_of form.Fortran (record { text = statement_text item; whole = refl; begins = begins.0; some = begins.1; prints = fortran_prints laws p g }) line [] refl tt (λ ds x q. inl q)
 
   pub line_prints : {cs : List Counted} {item : ItemTree} → ALine cs item → AllByRecursion IsProper (tokens_of cs) → IsShort cs → (line : ℕ)
       → (s : OneLine) × (item' : ItemTree) × (cs' : List Counted) × ALine cs' item' × IsShort cs' × (bare_item item' ≡ bare_item item) × (tokens_of cs' ≡ line_tokens line s) × StandsOn line s × (one_line s ≡ line_text item)

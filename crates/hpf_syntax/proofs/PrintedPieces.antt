@@ -18,12 +18,11 @@ use Rattle.hpf_syntax.specs.Rules.{Counted, outside, numbered, tokens_of, Rule, 
 use Rattle.hpf_syntax.specs.Grammar.{Enclosed, AnArgument, ANameArgument, AfterColon, MaybeExpression, AnArray, Names, NamesBehind}
 use Rattle.hpf_syntax.specs.Canonical.{parenthesized, listed, optional, name_text, expression_text, colon_text, argument_text, array_text, statement_text}
 use Rattle.hpf_syntax.specs.Placeless.{nowhere, bare_name, bare, bare_item}
-use Rattle.hpf_syntax.specs.Printing.{StopsName}
 use Rattle.hpf_syntax.proofs.Cuts.{tokens_append, tokens_numbered, short_parts}
 use Rattle.hpf_syntax.proofs.Lexing.{Lexing}
 use Rattle.hpf_syntax.proofs.PrintedRoom.{all_front, all_back, is_name_word, sound}
 use Rattle.hpf_syntax.proofs.PrintedExpression.{expression_is_read}
-use Rattle.hpf_syntax.proofs.PrintedCuts.{spelled_token, Clear, clear_stops_name, word_stops, Opens, opens_append, paren_stops, nothing_cut, cut_before, cut_token}
+use Rattle.hpf_syntax.proofs.PrintedCuts.{StopsName, spelled_token, Clear, clear_stops_name, word_stops, Opens, opens_append, paren_stops, nothing_cut, cut_before, cut_token}
 use Rattle.hpf_syntax.proofs.PrintedRules.{IsSome, opens_some, Prints, prints_as, prints_before, done_prints, blank_prints, left_prints, right_prints, then_prints, value_prints, closed_prints, sign_then, closed_then}
 use Rattle.hpf_syntax.proofs.PrintedEdges.{Leads, leads_opens, colon_stops, name_edges, expression_edges}
 use Rattle.hpf_syntax.proofs.PrintedWords.{left_paren, right_paren, right_paren_closed, left_array, left_array_closed, right_array, right_array_closed, comma, comma_closed, colon, double_colon, double_colon_closed}

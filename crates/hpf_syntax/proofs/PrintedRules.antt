@@ -13,10 +13,9 @@ use Rattle.hpf_syntax.specs.Terminal.{Is}
 use Rattle.hpf_syntax.specs.Plain.{place}
 use Rattle.hpf_syntax.specs.Rules.{Counted, outside, tokens_of, Rule, Done, Then, ◌or◌, Sign, IsShort}
 use Rattle.hpf_syntax.specs.Placeless.{nowhere}
-use Rattle.hpf_syntax.specs.Printing.{IsCut}
 use Rattle.hpf_syntax.proofs.Lexing.{Lexing}
 use Rattle.hpf_syntax.proofs.Cuts.{tokens_append, short_append}
-use Rattle.hpf_syntax.proofs.PrintedCuts.{spelled_token, IsClosed, closed_stops, Opens, nothing_cut, cut_before, cut_append, cut_blank, cut_token}
+use Rattle.hpf_syntax.proofs.PrintedCuts.{IsCut, spelled_token, IsClosed, closed_stops, Opens, nothing_cut, cut_before, cut_append, cut_blank, cut_token}
 
 -- ---- the first and the last byte
 
@@ -61,6 +60,10 @@ prints_before {bytes = bytes} stops p = record {
   reads = λ line column. let r = p.reads line column in (r.0, r.1, r.2, r.3, r.4, cut_before line column bytes (tokens_of r.1) stops r.5);
   ends = p.ends;
 }
+
+-- as a rule that says the same or more
+pub prints_also : {A B : Type 0} {R Q : Rule A} {view : A → B} {stops : List ℕ → Type 0} {bytes : List ℕ} {y : B} → ((cs : List Counted) (x : A) → R cs x → Q cs x) → Prints R view stops bytes y → Prints Q view stops bytes y
+prints_also wider p = record { reads = λ line column. let r = p.reads line column in (r.0, r.1, wider r.1 r.0 r.2, r.3, r.4, r.5); ends = p.ends }
 
 pub done_prints : {A B : Type 0} {view : A → B} {stops : List ℕ → Type 0} (a : A) {y : B} → view a ≡ y → Prints (Done a) view stops [] y
 done_prints {stops = stops} a e = record { reads = λ line column. (a, [], (refl, refl), tt, e, nothing_cut line column stops); ends = tt }

@@ -11,14 +11,15 @@ use Rattle.hpf_syntax.specs.declared.tree.Spot.{Spot}
 use Rattle.hpf_syntax.specs.Plain.{Tree, FormatTree, Block, Cyclic, GenBlock, Indirect, SubTree, OnePlace, Triplet, WidthTree}
 use Rattle.hpf_syntax.specs.declared.terminal.Terminal.TheVariants as terminal
 use Rattle.hpf_syntax.specs.Rules.{Counted, Sign, AnExpression}
-use Rattle.hpf_syntax.specs.Grammar.{FormatWidth, AFormat, ASource, AWidth}
-use Rattle.hpf_syntax.specs.InOrder.{ASub, ATriplet}
+use Rattle.hpf_syntax.specs.Grammar.{AFormat, ASource, ASub, AWidth, FormatWidth}
+use Rattle.hpf_syntax.proofs.InOrder.{ATriplet}
+use Rattle.hpf_syntax.proofs.InOrder as order
+use Rattle.hpf_syntax.proofs.SameRules.{sub_in_order, sub_published}
 use Rattle.hpf_syntax.specs.Canonical.{parenthesized, optional, name_text, expression_text, colon_text, argument_text, format_text, source_text, sub_text, width_text}
 use Rattle.hpf_syntax.specs.Placeless.{nowhere, bare, bare_format, bare_source, bare_sub, bare_width}
-use Rattle.hpf_syntax.specs.Printing.{StopsName}
 use Rattle.hpf_syntax.proofs.Lexing.{Lexing}
-use Rattle.hpf_syntax.proofs.PrintedCuts.{Clear, clear_stops_name, word_stops, Opens, opens_append}
-use Rattle.hpf_syntax.proofs.PrintedRules.{Prints, prints_as, prints_before, done_prints, left_prints, right_prints, then_prints, value_prints, sign_prints, closed_prints, sign_then, closed_then}
+use Rattle.hpf_syntax.proofs.PrintedCuts.{StopsName, Clear, clear_stops_name, word_stops, Opens, opens_append}
+use Rattle.hpf_syntax.proofs.PrintedRules.{Prints, prints_as, prints_before, prints_also, done_prints, left_prints, right_prints, then_prints, value_prints, sign_prints, closed_prints, sign_then, closed_then}
 use Rattle.hpf_syntax.proofs.PrintedEdges.{leads_opens, colon_stops}
 use Rattle.hpf_syntax.proofs.PrintedWords.{star, star_closed, colon, double_colon, double_colon_closed, block, cyclic, gen_block, indirect}
 use Rattle.hpf_syntax.proofs.PrintedPieces.{Good, good_parts, Given, given_colon, given_maybe, Element, name_element, expression_prints, expression_leads, argument_prints, name_argument_prints, after_colon_prints, maybe_expression_prints}
@@ -170,26 +171,29 @@ module _ (laws : Lexing) where
       (at, high, step, v, behind_prints low high step (given_maybe q two.0) (given_colon r (good_parts f3 b3 e3 two.1).0))
 
   abbrev IsSub : SubTree → Type 0
-  IsSub x = Prints ASub bare_sub Clear (sub_text x) (bare_sub x) × Opens (sub_text x)
+  IsSub x = Prints order.ASub bare_sub Clear (sub_text x) (bare_sub x) × Opens (sub_text x)
 
-  pub sub_element : Element ASub bare_sub sub_text
-  sub_element cs x (inl (at, f1, b1, p1, (nil, v), e1)) g = subst IsSub (sym v) (left_prints (value_prints (codes "*") star_prints (λ at' e. refl)), refl)
-  sub_element cs x (inr (inl p)) g =
+  in_order_element : Element order.ASub bare_sub sub_text
+  in_order_element cs x (inl (at, f1, b1, p1, (nil, v), e1)) g = subst IsSub (sym v) (left_prints (value_prints (codes "*") star_prints (λ at' e. refl)), refl)
+  in_order_element cs x (inr (inl p)) g =
       let t = triplet_prints None p g in
       subst IsSub (sym t.3) (right_prints (left_prints (t.4 None refl)), refl)
-  sub_element cs x (inr (inr (e, f1, b1, p, inl q, e1))) g =
+  in_order_element cs x (inr (inr (e, f1, b1, p, inl q, e1))) g =
       let parts = good_parts f1 b1 e1 g in
       let t = triplet_prints (Some e) q parts.1 in
       subst IsSub (sym t.3) (
         right_prints (right_prints (then_prints (expression_text e) (behind_text t.1 t.2) (expression_prints laws p parts.0) (λ y same. left_prints (t.4 (Some y) (ap Some same))) (λ rest stop. refl))),
         opens_append (expression_text e) (behind_text t.1 t.2) (leads_opens (expression_text e) (expression_leads laws p parts.0)),
       )
-  sub_element cs x (inr (inr (e, f1, b1, p, inr (nil, v), e1))) g =
+  in_order_element cs x (inr (inr (e, f1, b1, p, inr (nil, v), e1))) g =
       let parts = good_parts f1 b1 e1 g in
       subst IsSub (sym v) (
         prints_as (append-nil (expression_text e)) refl (right_prints (right_prints (then_prints (expression_text e) [] (expression_prints laws p parts.0) (λ y same. right_prints (done_prints (OnePlace y) (ap OnePlace same))) clear_stops_name))),
         leads_opens (expression_text e) (expression_leads laws p parts.0),
       )
+
+  pub sub_element : Element ASub bare_sub sub_text
+  sub_element cs x p g = let in_order = in_order_element cs x (sub_in_order cs x p) g in (prints_also sub_published in_order.0, in_order.1)
 
   -- ---- widths
 

@@ -7,17 +7,16 @@ use Rattle.hpf_lex.specs.declared.refusal.MapRefusal.{MapRefusal}
 use Rattle.hpf_lex.specs.declared.token.Token.{Token}
 use Rattle.hpf_lex.specs.Follows.{IsProper}
 use Rattle.hpf_lex.specs.OneLine.{OneLine, StandFrom, line_tokens, tokens_from, one_line_text}
-use Rattle.hpf_lex.specs.Statement.{max_text}
-use Rattle.hpf_lex.specs.Text.{HasTokens}
+use Rattle.hpf_lex.specs.Statement.{max_text, text_marks}
+use Rattle.hpf_lex.specs.Text.{HasTokens, faults_of}
+use Rattle.hpf_lex.specs.Text.{tokens_of as marked_tokens}
 use Rattle.hpf_syntax.specs.Plain.{ItemTree}
 use Rattle.hpf_syntax.specs.Rules.{Counted, tokens_of, IsShort}
-use Rattle.hpf_syntax.specs.InOrder.{IsText}
-use Rattle.hpf_syntax.specs.FirstFault.{SpellsShortly}
+use Rattle.hpf_syntax.specs.Grammar.{IsText}
 use Rattle.hpf_syntax.specs.Canonical.{line_text, canonical}
 use Rattle.hpf_syntax.specs.Placeless.{bare_item, AreAlike}
 use Rattle.hpf_syntax.specs.Parsed.{IsParsed, IsReadAgain}
 use Rattle.hpf_syntax.proofs.Lexing.{Lexing}
-use Rattle.hpf_syntax.proofs.SameRules.{text_in_order, text_published}
 use Rattle.hpf_syntax.proofs.PrintedLine.{line_prints}
 use Rattle.hpf_syntax.proofs.OneText.{one_list}
 use Rattle.hpf_syntax.proofs.Cuts.{tokens_append, short_append, short_parts}
@@ -46,7 +45,6 @@ canonical_lines items = refl
 module _
     (laws : Lexing)
     (proper_tokens : (text : List ℕ) (tokens : List Token) → HasTokens text tokens → AllByRecursion IsProper tokens)
-    (one_line_each : (ss : List OneLine) → StandFrom 1 ss → length (one_line_text ss) ≤ max_text → HasTokens (one_line_text ss) (tokens_from 1 ss))
   where
     again : (items : List ItemTree) (cs : List Counted) → IsText cs items → AllByRecursion IsProper (tokens_of cs) → IsShort cs → (line : ℕ) → Again line items
     again [] cs e proper short line = record { lines = []; read = []; counted = []; text = refl; short = tt; alike = refl; tokens = refl; stand = tt; spelled = refl }
@@ -71,30 +69,41 @@ module _
               ap (λ (bytes : List ℕ). bytes ++ one_line_text others.lines) one.8 ∙ ap (λ (bytes : List ℕ). line_text x ++ bytes) others.spelled;
         }
 
-    printed_text : (text : List ℕ) (tokens : List Token) (trees : List ItemTree) → HasTokens text tokens → SpellsShortly tokens trees → length (canonical trees) ≤ max_text → IsReadAgain (canonical trees) trees
-    printed_text text tokens trees has (cs, is, e, short) fits =
-        let proper : AllByRecursion IsProper (tokens_of cs) = subst (λ (ts : List Token). AllByRecursion IsProper ts) (sym e) (proper_tokens text tokens has) in
-        let a : Again 1 trees = again trees cs (text_in_order trees cs is) proper short 1 in
-        let spelled : one_line_text a.lines ≡ canonical trees = a.spelled ∙ canonical_lines trees in
-        let fits' : length (one_line_text a.lines) ≤ max_text = subst (λ (bytes : List ℕ). length bytes ≤ max_text) (sym spelled) fits in
-        let has' : HasTokens (canonical trees) (tokens_from 1 a.lines) =
-        subst (λ (bytes : List ℕ). HasTokens bytes (tokens_from 1 a.lines)) spelled (one_line_each a.lines a.stand fits') in
-        (a.read, (tokens_from 1 a.lines, has', (a.counted, text_published a.read a.counted a.text, a.tokens, a.short)), a.alike, alike_text a.read trees a.alike)
+    -- the statements of a text, written out from its first line on
+    written : (trees : List ItemTree) → IsParsed trees → Again 1 trees
+    written trees (text, (tokens, has, (cs, is, e, short))) =
+        again trees cs is (subst (λ (ts : List Token). AllByRecursion IsProper ts) (sym e) (proper_tokens text tokens has)) short 1
 
-    -- what is printed of the statements of a text is read again
-    read_again : (printed : List ℕ) (trees : List ItemTree) → IsParsed trees → printed ≡ canonical trees → length printed ≤ max_text → IsReadAgain printed trees
-    read_again printed trees (text, (tokens, has, spells)) e fits =
-        subst (λ (bytes : List ℕ). IsReadAgain bytes trees) (sym e)
-        (printed_text text tokens trees has spells (subst (λ (bytes : List ℕ). length bytes ≤ max_text) e fits))
+    module _ (one_line_each : (ss : List OneLine) → StandFrom 1 ss → length (one_line_text ss) ≤ max_text → HasTokens (one_line_text ss) (tokens_from 1 ss)) where
+      -- what is printed of the statements of a text is read again
+      read_again : (printed : List ℕ) (trees : List ItemTree) → IsParsed trees → printed ≡ canonical trees → length printed ≤ max_text → IsReadAgain printed trees
+      read_again printed trees parsed e fits =
+          let a : Again 1 trees = written trees parsed in
+          let spelled : one_line_text a.lines ≡ printed = a.spelled ∙ canonical_lines trees ∙ sym e in
+          let fits' : length (one_line_text a.lines) ≤ max_text = subst (λ (bytes : List ℕ). length bytes ≤ max_text) (sym spelled) fits in
+          let has : HasTokens printed (tokens_from 1 a.lines) =
+          subst (λ (bytes : List ℕ). HasTokens bytes (tokens_from 1 a.lines)) spelled (one_line_each a.lines a.stand fits') in
+          (a.read, (tokens_from 1 a.lines, has, (a.counted, a.text, a.tokens, a.short)), a.alike, alike_text a.read trees a.alike ∙ sym e)
 
-    -- statements with one canonical text are alike
-    pub same_text : (a b : List ItemTree) → IsParsed a → IsParsed b → length (canonical a) ≤ max_text → canonical a ≡ canonical b → AreAlike a b
-    same_text a b parsed other fits e =
-        let (x, (us, has, (cs, is, spells, short)), alike, _) = read_again (canonical a) a parsed refl fits in
-        let (y, (vs, has', (ds, is', spells', short')), alike', _) = read_again (canonical a) b other e fits in
-        let one : x ≡ y = one_list vs x y (cs, is, spells ∙ ok_tokens (sym has ∙ has')) (ds, is', spells') in
-        sym alike ∙ ap (λ (items : List ItemTree). map bare_item items) one ∙ alike'
+      pub if_printed : {E : Type 0} (trees : List ItemTree) (r : Result (List ℕ) E) → IsParsed trees → IfOk r (λ printed. printed ≡ canonical trees) → IfOk r (λ printed. length printed ≤ max_text → IsReadAgain printed trees)
+      if_printed trees (Ok printed) parsed e = read_again printed trees parsed e
+      if_printed trees (Err e) parsed h = tt
 
-    pub if_printed : {E : Type 0} (trees : List ItemTree) (r : Result (List ℕ) E) → IsParsed trees → IfOk r (λ printed. printed ≡ canonical trees) → IfOk r (λ printed. length printed ≤ max_text → IsReadAgain printed trees)
-    if_printed trees (Ok printed) parsed e = read_again printed trees parsed e
-    if_printed trees (Err e) parsed h = tt
+    module _
+        (one_line_each : (ss : List OneLine) → StandFrom 1 ss → (faults_of (text_marks (one_line_text ss)) ≡ []) × (marked_tokens (text_marks (one_line_text ss)) ≡ tokens_from 1 ss))
+      where
+        -- the tokens of a canonical text are what its bytes are cut into, however long it is
+        cut_tokens : (trees : List ItemTree) (a : Again 1 trees) → tokens_of a.counted ≡ marked_tokens (text_marks (canonical trees))
+        cut_tokens trees a =
+            a.tokens ∙ sym (one_line_each a.lines a.stand).1 ∙ ap (λ (bytes : List ℕ). marked_tokens (text_marks bytes)) (a.spelled ∙ canonical_lines trees)
+
+        -- statements with one canonical text are alike
+        pub same_text : (a b : List ItemTree) → IsParsed a → IsParsed b → canonical a ≡ canonical b → AreAlike a b
+        same_text a b parsed other e =
+            let x : Again 1 a = written a parsed in
+            let y : Again 1 b = written b other in
+            let same : tokens_of x.counted ≡ tokens_of y.counted =
+            cut_tokens a x ∙ ap (λ (bytes : List ℕ). marked_tokens (text_marks bytes)) e ∙ sym (cut_tokens b y) in
+            let one : x.read ≡ y.read =
+            one_list (tokens_of y.counted) x.read y.read (x.counted, x.text, same) (y.counted, y.text, refl) in
+            sym x.alike ∙ ap (λ (items : List ItemTree). map bare_item items) one ∙ y.alike

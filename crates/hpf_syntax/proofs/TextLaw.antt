@@ -9,7 +9,7 @@ use Rattle.hpf_syntax.specs.Reading.{◌>>=◌, bad_at}
 use Rattle.hpf_syntax.specs.Plain.{ItemTree}
 use Rattle.hpf_syntax.specs.Statements.{statement_at, statements_at, text_at}
 use Rattle.hpf_syntax.specs.Rules.{Counted, tokens_of, IsWithin}
-use Rattle.hpf_syntax.specs.InOrder.{ALine, IsText}
+use Rattle.hpf_syntax.specs.Grammar.{ALine, IsText}
 use Rattle.hpf_syntax.proofs.Terminals.{false_is_not_true}
 use Rattle.hpf_syntax.proofs.Cuts.{tokens_append, tokens_append_rest, short_append, cut, cut_append, cut_bind}
 use Rattle.hpf_syntax.proofs.Laws.{Over, Says, found, refused, Stable, same_first, first_is}

@@ -1,5 +1,6 @@
 -- The grammar of mapping texts (this project defines it, after Fortran 90 and High Performance Fortran 2.0).
--- `Sign t` is the token t, `Separated R` is `R { "," R }`, `or` is a choice, and `Done x` is nothing, with the value x.
+-- `Sign t` is the token t, `Separated R` is `R { "," R }`, `or` is a choice, `Done x` is nothing, with the value x, and
+-- `OfNames X` is `name X | X "::" names`.
 -- Each rule has the alternatives of the published grammar (docs/formats.md), in its order.
 use Rattle.std.specs.Prelude.{◌≡◌, List, [], ◌∷◌, ◌++◌, Option, Some, None}
 use Rattle.hpf_syntax.specs.declared.tree.At.{At}
@@ -48,6 +49,20 @@ Names = Separated AName
 -- "::" names
 abbrev pub NamesBehind : Rule (List Spot)
 NamesBehind = Sign terminal.DoubleColon >>= λ colons. Names
+
+-- name X | X "::" names: what is said of one name stands behind it, and of several before them
+abbrev pub OfNames : {A : Type 0} → Rule A → Rule (List Spot × A)
+OfNames X =
+    (AName >>= λ name. X >>= λ x. Done (name ∷ [], x))
+    or (X >>= λ x. NamesBehind >>= λ names. Done (names, x))
+
+-- [ R ]
+abbrev pub Maybe : {A : Type 0} → Rule A → Rule (Option A)
+Maybe R = (R >>= λ x. Done (Some x)) or Done None
+
+-- [ "(" R { "," R } ")" ]
+abbrev pub MaybeList : {A : Type 0} → Rule A → Rule (Option (List A))
+MaybeList R = Maybe (Enclosed terminal.LeftParen terminal.RightParen R)
 
 -- ---- declarations
 
@@ -132,7 +147,7 @@ Fortran =
 
 -- [ "(" expr ")" ]
 abbrev pub FormatWidth : Rule (Option Tree)
-FormatWidth = (AnArgument >>= λ e. Done (Some e)) or Done None
+FormatWidth = Maybe AnArgument
 
 -- format = "*" | "BLOCK" [ "(" expr ")" ] | "CYCLIC" [ "(" expr ")" ] | "GEN_BLOCK" "(" name ")" | "INDIRECT" "(" name ")"
 abbrev pub AFormat : Rule FormatTree
@@ -151,21 +166,12 @@ Formats = Enclosed terminal.LeftParen terminal.RightParen AFormat
 abbrev pub Onto : Rule (Option Spot)
 Onto = (Sign terminal.Onto >>= λ at. AName >>= λ name. Done (Some name)) or Done None
 
--- name "(" formats ")" [ "ONTO" name ]
-abbrev pub DistributeOne : Rule ItemTree
-DistributeOne = do
-  name ← AName
+-- "(" formats ")" [ "ONTO" name ]
+abbrev pub ADistribution : Rule (List FormatTree × Option Spot)
+ADistribution = do
   formats ← Formats
   onto ← Onto
-  Done (Distribute (name ∷ []) formats onto)
-
--- "(" formats ")" [ "ONTO" name ] "::" names
-abbrev pub DistributeMany : Rule ItemTree
-DistributeMany = do
-  formats ← Formats
-  onto ← Onto
-  names ← NamesBehind
-  Done (Distribute names formats onto)
+  Done (formats, onto)
 
 -- source = ":" | "*" | name
 abbrev pub ASource : Rule SourceItem
@@ -175,11 +181,11 @@ ASource =
 
 -- [ "(" sources ")" ]
 abbrev pub Sources : Rule (Option (List SourceItem))
-Sources = (Enclosed terminal.LeftParen terminal.RightParen ASource >>= λ list. Done (Some list)) or Done None
+Sources = MaybeList ASource
 
 -- [ expr ]
 abbrev pub MaybeExpression : Rule (Option Tree)
-MaybeExpression = (AnExpression >>= λ e. Done (Some e)) or Done None
+MaybeExpression = Maybe AnExpression
 
 -- triplet = [ expr ] ":" [ expr ] [ ":" expr ]
 --         | [ expr ] "::" expr
@@ -194,27 +200,16 @@ ASub = (Sign terminal.Star >>= λ at. Done (AnyPlace at)) or ((AnExpression >>= 
 
 -- [ "(" subs ")" ]
 abbrev pub Subs : Rule (Option (List SubTree))
-Subs = (Enclosed terminal.LeftParen terminal.RightParen ASub >>= λ list. Done (Some list)) or Done None
+Subs = MaybeList ASub
 
--- name [ "(" sources ")" ] "WITH" name [ "(" subs ")" ]
-abbrev pub AlignOne : Rule ItemTree
-AlignOne = do
-  name ← AName
+-- [ "(" sources ")" ] "WITH" name [ "(" subs ")" ]
+abbrev pub AnAlignment : Rule (Option (List SourceItem) × Spot × Option (List SubTree))
+AnAlignment = do
   sources ← Sources
   word ← Sign terminal.With
   base ← AName
   subs ← Subs
-  Done (Align (name ∷ []) sources base subs)
-
--- [ "(" sources ")" ] "WITH" name [ "(" subs ")" ] "::" names
-abbrev pub AlignMany : Rule ItemTree
-AlignMany = do
-  sources ← Sources
-  word ← Sign terminal.With
-  base ← AName
-  subs ← Subs
-  names ← NamesBehind
-  Done (Align names sources base subs)
+  Done (sources, base, subs)
 
 -- width = expr [ ":" expr ]
 abbrev pub AWidth : Rule WidthTree
@@ -226,20 +221,6 @@ AWidth = do
 -- "(" widths ")"
 abbrev pub Widths : Rule (List WidthTree)
 Widths = Enclosed terminal.LeftParen terminal.RightParen AWidth
-
--- name "(" widths ")"
-abbrev pub ShadowOne : Rule ItemTree
-ShadowOne = do
-  name ← AName
-  widths ← Widths
-  Done (Shadow (name ∷ []) widths)
-
--- "(" widths ")" "::" names
-abbrev pub ShadowMany : Rule ItemTree
-ShadowMany = do
-  widths ← Widths
-  names ← NamesBehind
-  Done (Shadow names widths)
 
 -- directive = "PROCESSORS" shaped { "," shaped }
 --           | "TEMPLATE" shaped { "," shaped }
@@ -253,12 +234,9 @@ abbrev pub ADirective : Rule ItemTree
 ADirective =
     (Sign terminal.Processors >>= λ at. Separated AShaped >>= λ names. Done (Processors names))
     or ((Sign terminal.Template >>= λ at. Separated AShaped >>= λ names. Done (Template names))
-    or ((Sign terminal.Distribute >>= λ at. DistributeOne)
-    or ((Sign terminal.Distribute >>= λ at. DistributeMany)
-    or ((Sign terminal.Align >>= λ at. AlignOne)
-    or ((Sign terminal.Align >>= λ at. AlignMany)
-    or ((Sign terminal.Shadow >>= λ at. ShadowOne)
-    or (Sign terminal.Shadow >>= λ at. ShadowMany)))))))
+    or ((Sign terminal.Distribute >>= λ at. OfNames ADistribution >>= λ said. Done (Distribute said.0 said.1.0 said.1.1))
+    or ((Sign terminal.Align >>= λ at. OfNames AnAlignment >>= λ said. Done (Align said.0 said.1.0 said.1.1 said.1.2))
+    or (Sign terminal.Shadow >>= λ at. OfNames Widths >>= λ said. Done (Shadow said.0 said.1)))))
 
 -- ---- pipelines
 

@@ -7,9 +7,7 @@ pub mod Refusal
 pub mod Expressions
 pub mod Rules
 pub mod Grammar
-pub mod InOrder
 pub mod FirstFault
 pub mod Canonical
 pub mod Placeless
-pub mod Printing
 pub mod Parsed

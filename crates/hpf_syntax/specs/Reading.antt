@@ -12,6 +12,7 @@ use Rattle.hpf_syntax.specs.declared.tree.At.{At}
 use Rattle.hpf_syntax.specs.Plain.{place}
 use Rattle.hpf_syntax.specs.Terminal.{begins}
 
+-- one reading and then another, which goes on behind it
 infixl 10 ◌>>=◌
 abbrev pub ◌>>=◌ : {A B : Type 0} → Result A BadToken → (A → Result B BadToken) → Result B BadToken
 (Ok x) >>= f = f x
@@ -25,11 +26,12 @@ Reading A = List Token → Result (A × List Token) BadToken
 abbrev pub bad_at : Fault → List Token → BadToken
 bad_at fault tokens = record { fault = fault; left = length tokens }
 
--- What a function returned, seen by view, is what reading gives, unless memory ran out.
+-- a function stopped where reading refuses a token, or for want of memory
 abbrev pub Fails : {Y : Type 0} → Stop → Result Y BadToken → Type 0
 Fails (stop.Memory e) read = Unit {0}
 Fails (stop.Bad b) read = read ≡ Err b
 
+-- what a function returned, seen by view, is what reading gives, unless memory ran out
 abbrev pub Gives : {X Y : Type 0} → (X → Y) → Result X Stop → Result Y BadToken → Type 0
 Gives view (Ok x) read = read ≡ Ok (view x)
 Gives view (Err e) read = Fails e read

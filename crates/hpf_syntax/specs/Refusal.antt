@@ -24,20 +24,8 @@ Refuses view tokens (Ok x) read = read ≡ Ok (view x)
 Refuses view tokens (Err (answer.Refused r)) read = (bad : BadToken) × (read ≡ Err bad) × (r ≡ refusal_of tokens bad)
 Refuses view tokens (Err (answer.Memory e)) read = Unit {0}
 
--- the fact for a refusal
-abbrev pub IfRefused : {X : Type 0} → Result X MapError → (MapRefusal → Type 0) → Type 0
-IfRefused (Ok x) P = Unit {0}
-IfRefused (Err (answer.Refused r)) P = P r
-IfRefused (Err (answer.Memory e)) P = Unit {0}
-
 -- the result is these statements, unless memory ran out
 abbrev pub IsRead : Result (List Item) MapError → List ItemTree → Type 0
 IsRead (Ok items) trees = map item_tree items ≡ trees
 IsRead (Err (answer.Refused r)) trees = ⊥
 IsRead (Err (answer.Memory e)) trees = Unit {0}
-
--- the result is this refusal, unless memory ran out
-abbrev pub IsRefused : Result (List Item) MapError → MapRefusal → Type 0
-IsRefused (Ok items) r = ⊥
-IsRefused (Err (answer.Refused s)) r = s ≡ r
-IsRefused (Err (answer.Memory e)) r = Unit {0}

@@ -13,6 +13,7 @@ use Rattle.hpf_syntax.specs.Reading.{◌>>=◌, Reading, bad_at, rest_of, first_
 use Rattle.hpf_syntax.specs.Partial.{expression_at}
 use Rattle.hpf_syntax.specs.Plain.{Tree, BoundTree, bound_of, DeclaredTree, ValueTree, One, Many, ConstantTree, FormatTree, Star, Block, Cyclic, GenBlock, Indirect, SubTree, AnyPlace, OnePlace, Triplet, WidthTree, OpTree, Plain, Add, Mul, Prefix, Stencil, ItemTree, ImplicitNone, Variables, Constants, Processors, Template, Distribute, Align, Shadow, Input, Stage}
 
+-- the word of the first token, which is empty for a token that is no word
 abbrev pub first_word : List Token → List ℕ
 first_word [] = []
 first_word (t ∷ ts) = t.word
@@ -58,11 +59,13 @@ source_at tokens =
     else (if begins terminal.Star tokens then Ok (source.Star (first_place tokens), rest_of tokens)
     else (name_at tokens >>= λ n. Ok (source.Dummy n.0, n.1)))
 
-unfoldable pub sources_at : Reading (Option (List SourceItem))
-sources_at tokens =
-    if begins terminal.LeftParen tokens
-    then (enclosed_at terminal.LeftParen terminal.RightParen source_at tokens >>= λ list. Ok (Some list.0, list.1))
-    else Ok (None, tokens)
+-- what begins with these tokens, if it stands there
+abbrev pub maybe_at : {A : Type 0} → (List Token → Bool) → Reading A → Reading (Option A)
+maybe_at there read tokens = if there tokens then (read tokens >>= λ x. Ok (Some x.0, x.1)) else Ok (None, tokens)
+
+-- a list in parentheses, if it stands there
+unfoldable pub maybe_list_at : {A : Type 0} → Reading A → Reading (Option (List A))
+maybe_list_at read tokens = maybe_at (begins terminal.LeftParen) (enclosed_at terminal.LeftParen terminal.RightParen read) tokens
 
 -- whether an expression begins here
 abbrev pub begins_expression : List Token → Bool
@@ -73,13 +76,14 @@ begins_expression tokens =
 abbrev pub begins_triplet : List Token → Bool
 begins_triplet tokens = begins terminal.Colon tokens || begins terminal.DoubleColon tokens
 
--- one name in front, or names behind
-abbrev pub one_or_many_at : Reading ItemTree → Reading ItemTree → Reading ItemTree
-one_or_many_at one many tokens = if begins terminal.Name tokens then one tokens else many tokens
+-- a name and what is read of it, or what is read and names behind two colons
+unfoldable pub of_names_at : {A : Type 0} → Reading A → Reading (List Spot × A)
+of_names_at read tokens =
+    if begins terminal.Name tokens
+    then (name_at tokens >>= λ name. read name.1 >>= λ x. Ok ((name.0 ∷ [], x.0), x.1))
+    else (read tokens >>= λ x. colons_names_at x.1 >>= λ names. Ok ((names.0, x.0), names.1))
 
--- ---- pipelines
-
--- ---- the text
+-- ---- what holds expressions, none of which has more than max tokens
 
 module _ (max : ℕ) where
   -- an expression in parentheses
@@ -142,10 +146,11 @@ module _ (max : ℕ) where
   unfoldable pub dimension_at : Reading (List BoundTree)
   dimension_at tokens = take_at terminal.Dimension tokens >>= λ at. shape_at at.1
 
-  -- what stands behind the attributes: two colons, and variables or constants
+  -- variables, with the shape that they have in common
   unfoldable pub variables_at : List BoundTree → Reading ItemTree
   variables_at common tokens = separated_at variable_at tokens >>= λ names. Ok (Variables common names.0, names.1)
 
+  -- two colons, and constants, with the shape that they have in common
   unfoldable pub constants_at : List BoundTree → Reading ItemTree
   constants_at common tokens = do
     colons ← take_at terminal.DoubleColon tokens
@@ -185,10 +190,7 @@ module _ (max : ℕ) where
 
   -- a width of a format, if there is one
   unfoldable pub format_width_at : Reading (Option Tree)
-  format_width_at tokens =
-      if begins terminal.LeftParen tokens
-      then (argument_at tokens >>= λ e. Ok (Some e.0, e.1))
-      else Ok (None, tokens)
+  format_width_at tokens = maybe_at (begins terminal.LeftParen) argument_at tokens
 
   unfoldable pub format_at : Reading FormatTree
   format_at tokens =
@@ -204,25 +206,14 @@ module _ (max : ℕ) where
   unfoldable pub formats_at : Reading (List FormatTree)
   formats_at tokens = enclosed_at terminal.LeftParen terminal.RightParen format_at tokens
 
-  unfoldable pub distribute_many_at : Reading ItemTree
-  distribute_many_at tokens = do
+  unfoldable pub distribution_at : Reading (List FormatTree × Option Spot)
+  distribution_at tokens = do
     formats ← formats_at tokens
     onto ← onto_at formats.1
-    names ← colons_names_at onto.1
-    Ok (Distribute names.0 formats.0 onto.0, names.1)
-
-  unfoldable pub distribute_one_at : Reading ItemTree
-  distribute_one_at tokens = do
-    name ← name_at tokens
-    formats ← formats_at name.1
-    onto ← onto_at formats.1
-    Ok (Distribute (name.0 ∷ []) formats.0 onto.0, onto.1)
+    Ok ((formats.0, onto.0), onto.1)
 
   unfoldable pub maybe_expression_at : Reading (Option Tree)
-  maybe_expression_at tokens =
-      if begins_expression tokens
-      then (expression_at max tokens >>= λ e. Ok (Some e.0, e.1))
-      else Ok (None, tokens)
+  maybe_expression_at tokens = maybe_at begins_expression (expression_at max) tokens
 
   -- a triplet, from its first colon on
   unfoldable pub triplet_at : Option Tree → Reading SubTree
@@ -238,29 +229,13 @@ module _ (max : ℕ) where
       else (if begins_triplet tokens then triplet_at None tokens
       else (expression_at max tokens >>= λ e. if begins_triplet e.1 then triplet_at (Some e.0) e.1 else Ok (OnePlace e.0, e.1)))
 
-  unfoldable pub subs_at : Reading (Option (List SubTree))
-  subs_at tokens =
-      if begins terminal.LeftParen tokens
-      then (enclosed_at terminal.LeftParen terminal.RightParen sub_at tokens >>= λ list. Ok (Some list.0, list.1))
-      else Ok (None, tokens)
-
-  unfoldable pub align_one_at : Reading ItemTree
-  align_one_at tokens = do
-    name ← name_at tokens
-    sources ← sources_at name.1
+  unfoldable pub alignment_at : Reading (Option (List SourceItem) × Spot × Option (List SubTree))
+  alignment_at tokens = do
+    sources ← maybe_list_at source_at tokens
     word ← take_at terminal.With sources.1
     base ← name_at word.1
-    subs ← subs_at base.1
-    Ok (Align (name.0 ∷ []) sources.0 base.0 subs.0, subs.1)
-
-  unfoldable pub align_many_at : Reading ItemTree
-  align_many_at tokens = do
-    sources ← sources_at tokens
-    word ← take_at terminal.With sources.1
-    base ← name_at word.1
-    subs ← subs_at base.1
-    names ← colons_names_at subs.1
-    Ok (Align names.0 sources.0 base.0 subs.0, names.1)
+    subs ← maybe_list_at sub_at base.1
+    Ok ((sources.0, base.0, subs.0), subs.1)
 
   unfoldable pub width_at : Reading WidthTree
   width_at tokens = do
@@ -271,17 +246,15 @@ module _ (max : ℕ) where
   unfoldable pub widths_at : Reading (List WidthTree)
   widths_at tokens = enclosed_at terminal.LeftParen terminal.RightParen width_at tokens
 
-  unfoldable pub shadow_one_at : Reading ItemTree
-  shadow_one_at tokens = do
-    name ← name_at tokens
-    widths ← widths_at name.1
-    Ok (Shadow (name.0 ∷ []) widths.0, widths.1)
+  -- behind DISTRIBUTE, ALIGN and SHADOW
+  unfoldable pub distribute_at : Reading ItemTree
+  distribute_at tokens = of_names_at distribution_at tokens >>= λ said. Ok (Distribute said.0.0 said.0.1.0 said.0.1.1, said.1)
 
-  unfoldable pub shadow_many_at : Reading ItemTree
-  shadow_many_at tokens = do
-    widths ← widths_at tokens
-    names ← colons_names_at widths.1
-    Ok (Shadow names.0 widths.0, names.1)
+  unfoldable pub align_at : Reading ItemTree
+  align_at tokens = of_names_at alignment_at tokens >>= λ said. Ok (Align said.0.0 said.0.1.0 said.0.1.1 said.0.1.2, said.1)
+
+  unfoldable pub shadow_at : Reading ItemTree
+  shadow_at tokens = of_names_at widths_at tokens >>= λ said. Ok (Shadow said.0.0 said.0.1, said.1)
 
   unfoldable pub directive_at : Reading ItemTree
   directive_at tokens =
@@ -289,9 +262,9 @@ module _ (max : ℕ) where
       then (separated_at shaped_at (rest_of tokens) >>= λ names. Ok (Processors names.0, names.1))
       else (if begins terminal.Template tokens
       then (separated_at shaped_at (rest_of tokens) >>= λ names. Ok (Template names.0, names.1))
-      else (if begins terminal.Distribute tokens then one_or_many_at distribute_one_at distribute_many_at (rest_of tokens)
-      else (if begins terminal.Align tokens then one_or_many_at align_one_at align_many_at (rest_of tokens)
-      else (take_at terminal.Shadow tokens >>= λ at. one_or_many_at shadow_one_at shadow_many_at at.1))))
+      else (if begins terminal.Distribute tokens then distribute_at (rest_of tokens)
+      else (if begins terminal.Align tokens then align_at (rest_of tokens)
+      else (take_at terminal.Shadow tokens >>= λ at. shadow_at at.1))))
 
   unfoldable pub buffers_at : Reading (Option Tree)
   buffers_at tokens =

@@ -5,18 +5,46 @@ ghost use Rattle.hpf_syntax.specs.declared.tree.SourceItem.{SourceItem};
 ghost use Rattle.hpf_syntax.specs.Plain.{FormatTree, format_tree, SubTree, sub_tree, WidthTree, width_tree, item_tree, tree};
 ghost use Rattle.hpf_syntax.specs.Partial.{max_expression};
 ghost use Rattle.hpf_syntax.specs.Reading.{Gives};
-ghost use Rattle.hpf_syntax.specs.Statements.{format_width_at, format_at, formats_at, onto_at, distribute_many_at, distribute_one_at, source_at, sources_at, begins_expression, maybe_expression_at, triplet_at, begins_triplet, sub_at, subs_at, align_one_at, align_many_at, width_at, widths_at, shadow_one_at, shadow_many_at, one_or_many_at, directive_at, shaped_at};
+ghost use Rattle.hpf_syntax.specs.Statements.{colons_names_at, of_names_at, format_width_at, format_at, formats_at, onto_at, distribution_at, distribute_at, source_at, begins_expression, maybe_expression_at, triplet_at, begins_triplet, sub_at, alignment_at, align_at, width_at, widths_at, shadow_at, directive_at, shaped_at};
 
 use crate::declare::ShapedRule;
 use crate::expression::expression;
 use crate::list::List;
-use crate::pieces::{argument, colon, colons_names, first_place, name, name_argument};
+use crate::pieces::{NameRule, argument, colon, first_place, maybe_list, name, name_argument};
 use crate::rule::{Rule, behind, enclosed, separated, take};
 use crate::stop::Stop;
 use crate::terminal::{Terminal, begins};
 use crate::tree::{Expr, FormatItem, Item, SourceItem, Spot, SubItem, WidthItem};
 use hpf_lex::Token;
 use std::alloc::Global;
+
+/// Two colons, and names.
+#[tactic(auto, unfolding(crate::specs::Statements::colons_names_at, crate::specs::Statements::names_at))]
+fn colons_names(alloc: Global, tokens: &[Token]) -> Result<(List<Spot>, &[Token]), Stop>
+    ensures { Gives (λ x. (x.0, x.1.now)) result (colons_names_at tokens.now) }
+{
+    let rest = take(Terminal::DoubleColon, tokens)?;
+    separated::<NameRule>(alloc, rest)
+}
+
+/// A name and what a rule says of it, or what it says of several names and these behind two colons.
+#[tactic(auto, unfolding(crate::specs::Statements::of_names_at))]
+fn of_names<R: Rule>(
+    alloc: Global,
+    tokens: &[Token],
+) -> Result<(List<Spot>, R::Value, &[Token]), Stop>
+    ensures { Gives (λ x. ((x.0, R.tree x.1), x.2.now)) result (of_names_at R.reading tokens.now) }
+{
+    if begins(Terminal::Name, tokens) {
+        let name = name(tokens)?;
+        let (said, rest) = R::read(alloc, behind(tokens))?;
+        Ok((List::of_one(alloc, name)?, said, rest))
+    } else {
+        let (said, rest) = R::read(alloc, tokens)?;
+        let (names, rest) = colons_names(alloc, rest)?;
+        Ok((names, said, rest))
+    }
+}
 
 /// A width of a format, if there is one.
 #[tactic(auto, unfolding(crate::specs::Statements::format_width_at))]
@@ -89,40 +117,48 @@ fn onto(tokens: &[Token]) -> Result<(Option<Spot>, &[Token]), Stop>
     }
 }
 
-/// DISTRIBUTE with names behind two colons.
-#[tactic(auto, unfolding(crate::specs::Statements::distribute_many_at))]
-fn distribute_many(alloc: Global, tokens: &[Token]) -> Result<(Item, &[Token]), Stop>
-    ensures { Gives (λ x. (item_tree x.0, x.1.now)) result (distribute_many_at max_expression tokens.now) }
-{
-    let (formats, rest) = formats(alloc, tokens)?;
-    let (onto, rest) = match onto(rest) {
-        Ok(found) => found,
-        Err(stop) => return Err(stop),
-    };
-    let (names, rest) = colons_names(alloc, rest)?;
-    let item = Item::Distribute {
-        names,
-        formats,
-        onto,
-    };
-    Ok((item, rest))
+/// What DISTRIBUTE says of names.
+#[derive(Drop)]
+struct Distribution {
+    formats: List<FormatItem>,
+    onto: Option<Spot>,
 }
 
-/// DISTRIBUTE with one name in front.
-#[tactic(auto, unfolding(crate::specs::Statements::distribute_one_at))]
-fn distribute_one(alloc: Global, tokens: &[Token]) -> Result<(Item, &[Token]), Stop>
-    ensures { Gives (λ x. (item_tree x.0, x.1.now)) result (distribute_one_at max_expression tokens.now) }
+/// The rule of what DISTRIBUTE says of names.
+struct DistributionRule;
+
+impl Rule for DistributionRule {
+    type Value = Distribution;
+
+    ghost use Rattle.std.specs.Prelude.{Option};
+    ghost use Rattle.hpf_syntax.specs.declared.tree.Spot.{Spot};
+
+    ghost Tree = { List FormatTree × Option Spot };
+
+    ghost tree = { λ x. (map format_tree x.formats, x.onto) };
+
+    ghost reading = { distribution_at max_expression };
+
+    #[tactic(auto, unfolding(crate::specs::Statements::distribution_at))]
+    fn read(alloc: Global, tokens: &[Token]) -> Result<(Distribution, &[Token]), Stop> {
+        let (formats, rest) = formats(alloc, tokens)?;
+        match onto(rest) {
+            Ok((onto, rest)) => Ok((Distribution { formats, onto }, rest)),
+            Err(stop) => Err(stop),
+        }
+    }
+}
+
+/// What stands behind DISTRIBUTE.
+#[tactic(auto, unfolding(crate::specs::Statements::distribute_at))]
+fn distribute(alloc: Global, tokens: &[Token]) -> Result<(Item, &[Token]), Stop>
+    ensures { Gives (λ x. (item_tree x.0, x.1.now)) result (distribute_at max_expression tokens.now) }
 {
-    let name = name(tokens)?;
-    let (formats, rest) = formats(alloc, behind(tokens))?;
-    let (onto, rest) = match onto(rest) {
-        Ok(found) => found,
-        Err(stop) => return Err(stop),
-    };
+    let (names, said, rest) = of_names::<DistributionRule>(alloc, tokens)?;
     let item = Item::Distribute {
-        names: List::of_one(alloc, name)?,
-        formats,
-        onto,
+        names,
+        formats: said.formats,
+        onto: said.onto,
     };
     Ok((item, rest))
 }
@@ -148,24 +184,6 @@ impl Rule for SourceRule {
         } else {
             Ok((SourceItem::Dummy(name(tokens)?), behind(tokens)))
         }
-    }
-}
-
-/// The sources of ALIGN, if they are there.
-#[tactic(auto, unfolding(crate::specs::Statements::sources_at))]
-fn sources(alloc: Global, tokens: &[Token]) -> Result<(Option<List<SourceItem>>, &[Token]), Stop>
-    ensures { Gives (λ x. (x.0, x.1.now)) result (sources_at tokens.now) }
-{
-    if begins(Terminal::LeftParen, tokens) {
-        let (list, rest) = enclosed::<SourceRule>(
-            alloc,
-            Terminal::LeftParen,
-            Terminal::RightParen,
-            tokens,
-        )?;
-        Ok((Some(list), rest))
-    } else {
-        Ok((None, tokens))
     }
 }
 
@@ -259,58 +277,55 @@ impl Rule for SubRule {
     }
 }
 
-/// The subscripts of ALIGN, if they are there.
-#[tactic(auto, unfolding(crate::specs::Statements::subs_at))]
-fn subs(alloc: Global, tokens: &[Token]) -> Result<(Option<List<SubItem>>, &[Token]), Stop>
-    ensures { Gives (λ x. (option_map (map sub_tree) x.0, x.1.now)) result (subs_at max_expression tokens.now) }
-{
-    if begins(Terminal::LeftParen, tokens) {
-        let (list, rest) = enclosed::<SubRule>(
-            alloc,
-            Terminal::LeftParen,
-            Terminal::RightParen,
-            tokens,
-        )?;
-        Ok((Some(list), rest))
-    } else {
-        Ok((None, tokens))
+/// What ALIGN says of names.
+#[derive(Drop)]
+struct Alignment {
+    sources: Option<List<SourceItem>>,
+    base: Spot,
+    subs: Option<List<SubItem>>,
+}
+
+/// The rule of what ALIGN says of names.
+struct AlignmentRule;
+
+impl Rule for AlignmentRule {
+    type Value = Alignment;
+
+    ghost use Rattle.std.specs.Prelude.{Option};
+    ghost use Rattle.hpf_syntax.specs.declared.tree.Spot.{Spot};
+
+    ghost Tree = { Option (List SourceItem) × Spot × Option (List SubTree) };
+
+    ghost tree = { λ x. (x.sources, x.base, option_map (map sub_tree) x.subs) };
+
+    ghost reading = { alignment_at max_expression };
+
+    #[tactic(auto, unfolding(crate::specs::Statements::alignment_at))]
+    fn read(alloc: Global, tokens: &[Token]) -> Result<(Alignment, &[Token]), Stop> {
+        let (sources, rest) = maybe_list::<SourceRule>(alloc, tokens)?;
+        let rest = take(Terminal::With, rest)?;
+        let base = name(rest)?;
+        let (subs, rest) = maybe_list::<SubRule>(alloc, behind(rest))?;
+        let alignment = Alignment {
+            sources,
+            base,
+            subs,
+        };
+        Ok((alignment, rest))
     }
 }
 
-/// ALIGN with one name in front.
-#[tactic(auto, unfolding(crate::specs::Statements::align_one_at))]
-fn align_one(alloc: Global, tokens: &[Token]) -> Result<(Item, &[Token]), Stop>
-    ensures { Gives (λ x. (item_tree x.0, x.1.now)) result (align_one_at max_expression tokens.now) }
+/// What stands behind ALIGN.
+#[tactic(auto, unfolding(crate::specs::Statements::align_at))]
+fn align(alloc: Global, tokens: &[Token]) -> Result<(Item, &[Token]), Stop>
+    ensures { Gives (λ x. (item_tree x.0, x.1.now)) result (align_at max_expression tokens.now) }
 {
-    let alignee = name(tokens)?;
-    let (sources, rest) = sources(alloc, behind(tokens))?;
-    let rest = take(Terminal::With, rest)?;
-    let base = name(rest)?;
-    let (subs, rest) = subs(alloc, behind(rest))?;
-    let item = Item::Align {
-        names: List::of_one(alloc, alignee)?,
-        sources,
-        base,
-        subs,
-    };
-    Ok((item, rest))
-}
-
-/// ALIGN with names behind two colons.
-#[tactic(auto, unfolding(crate::specs::Statements::align_many_at))]
-fn align_many(alloc: Global, tokens: &[Token]) -> Result<(Item, &[Token]), Stop>
-    ensures { Gives (λ x. (item_tree x.0, x.1.now)) result (align_many_at max_expression tokens.now) }
-{
-    let (sources, rest) = sources(alloc, tokens)?;
-    let rest = take(Terminal::With, rest)?;
-    let base = name(rest)?;
-    let (subs, rest) = subs(alloc, behind(rest))?;
-    let (names, rest) = colons_names(alloc, rest)?;
+    let (names, said, rest) = of_names::<AlignmentRule>(alloc, tokens)?;
     let item = Item::Align {
         names,
-        sources,
-        base,
-        subs,
+        sources: said.sources,
+        base: said.base,
+        subs: said.subs,
     };
     Ok((item, rest))
 }
@@ -335,68 +350,31 @@ impl Rule for WidthRule {
     }
 }
 
-#[tactic(auto, unfolding(crate::specs::Statements::widths_at))]
-fn widths(alloc: Global, tokens: &[Token]) -> Result<(List<WidthItem>, &[Token]), Stop>
-    ensures { Gives (λ x. (map width_tree x.0, x.1.now)) result (widths_at max_expression tokens.now) }
-{
-    enclosed::<WidthRule>(alloc, Terminal::LeftParen, Terminal::RightParen, tokens)
-}
+/// The rule of the widths of SHADOW.
+struct WidthsRule;
 
-/// SHADOW with one name in front.
-#[tactic(auto, unfolding(crate::specs::Statements::shadow_one_at))]
-fn shadow_one(alloc: Global, tokens: &[Token]) -> Result<(Item, &[Token]), Stop>
-    ensures { Gives (λ x. (item_tree x.0, x.1.now)) result (shadow_one_at max_expression tokens.now) }
-{
-    let name = name(tokens)?;
-    let (widths, rest) = widths(alloc, behind(tokens))?;
-    let item = Item::Shadow {
-        names: List::of_one(alloc, name)?,
-        widths,
-    };
-    Ok((item, rest))
-}
+impl Rule for WidthsRule {
+    type Value = List<WidthItem>;
 
-/// SHADOW with names behind two colons.
-#[tactic(auto, unfolding(crate::specs::Statements::shadow_many_at))]
-fn shadow_many(alloc: Global, tokens: &[Token]) -> Result<(Item, &[Token]), Stop>
-    ensures { Gives (λ x. (item_tree x.0, x.1.now)) result (shadow_many_at max_expression tokens.now) }
-{
-    let (widths, rest) = widths(alloc, tokens)?;
-    let (names, rest) = colons_names(alloc, rest)?;
-    Ok((Item::Shadow { names, widths }, rest))
-}
+    ghost Tree = { List WidthTree };
 
-/// What stands behind DISTRIBUTE.
-fn distribute(alloc: Global, tokens: &[Token]) -> Result<(Item, &[Token]), Stop>
-    ensures { Gives (λ x. (item_tree x.0, x.1.now)) result (one_or_many_at (distribute_one_at max_expression) (distribute_many_at max_expression) tokens.now) }
-{
-    if begins(Terminal::Name, tokens) {
-        distribute_one(alloc, tokens)
-    } else {
-        distribute_many(alloc, tokens)
-    }
-}
+    ghost tree = { λ x. map width_tree x };
 
-/// What stands behind ALIGN.
-fn align(alloc: Global, tokens: &[Token]) -> Result<(Item, &[Token]), Stop>
-    ensures { Gives (λ x. (item_tree x.0, x.1.now)) result (one_or_many_at (align_one_at max_expression) (align_many_at max_expression) tokens.now) }
-{
-    if begins(Terminal::Name, tokens) {
-        align_one(alloc, tokens)
-    } else {
-        align_many(alloc, tokens)
+    ghost reading = { widths_at max_expression };
+
+    #[tactic(auto, unfolding(crate::specs::Statements::widths_at))]
+    fn read(alloc: Global, tokens: &[Token]) -> Result<(List<WidthItem>, &[Token]), Stop> {
+        enclosed::<WidthRule>(alloc, Terminal::LeftParen, Terminal::RightParen, tokens)
     }
 }
 
 /// What stands behind SHADOW.
+#[tactic(auto, unfolding(crate::specs::Statements::shadow_at))]
 fn shadow(alloc: Global, tokens: &[Token]) -> Result<(Item, &[Token]), Stop>
-    ensures { Gives (λ x. (item_tree x.0, x.1.now)) result (one_or_many_at (shadow_one_at max_expression) (shadow_many_at max_expression) tokens.now) }
+    ensures { Gives (λ x. (item_tree x.0, x.1.now)) result (shadow_at max_expression tokens.now) }
 {
-    if begins(Terminal::Name, tokens) {
-        shadow_one(alloc, tokens)
-    } else {
-        shadow_many(alloc, tokens)
-    }
+    let (names, widths, rest) = of_names::<WidthsRule>(alloc, tokens)?;
+    Ok((Item::Shadow { names, widths }, rest))
 }
 
 /// A directive, behind its prefix.

@@ -1,9 +1,8 @@
 //! What holds of the grammar itself, and of canonical text.
 
-ghost use Rattle.std.specs.Prelude.{◌≡◌, ◌≤◌, ◌⊎◌, List, length};
+ghost use Rattle.std.specs.Prelude.{◌≡◌, ◌⊎◌, List};
 ghost use Rattle.hpf_lex.specs.declared.refusal.MapRefusal.{MapRefusal};
 ghost use Rattle.hpf_lex.specs.declared.token.Token.{Token};
-ghost use Rattle.hpf_lex.specs.Statement.{max_text};
 ghost use Rattle.hpf_lex.specs.Whole.{AreWhole};
 ghost use Rattle.hpf_syntax.specs.Canonical.{canonical};
 ghost use Rattle.hpf_syntax.specs.FirstFault.{Spells, SpellsShortly, IsRefusalOf};
@@ -36,12 +35,10 @@ pub fn text_or_fault()
         → ((items : List ItemTree) × SpellsShortly tokens items) ⊎ ((r : MapRefusal) × IsRefusalOf tokens r) }
 {}
 
-/// Statements of texts have one canonical text exactly where they differ in their places alone, if that text isn't too
-/// long.
+/// Statements of texts have one canonical text exactly where they differ in their places alone, however long that text is.
 pub fn one_canonical_text()
     ensures alike { (a b : List ItemTree) → AreAlike a b → canonical a ≡ canonical b }
-    ensures only { (a b : List ItemTree) → IsParsed a → IsParsed b → length (canonical a) ≤ max_text
-        → canonical a ≡ canonical b → AreAlike a b }
+    ensures only { (a b : List ItemTree) → IsParsed a → IsParsed b → canonical a ≡ canonical b → AreAlike a b }
 {
     // What is known of texts that are written token by token.
     spelled_token();

@@ -2,11 +2,12 @@
 
 ghost use Rattle.std.specs.Prelude.{◌≡◌, List, map, IfOk};
 ghost use Rattle.hpf_lex.specs.declared.refusal.MapRefusal.{MapRefusal};
+ghost use Rattle.hpf_lex.specs.Text.{IfRefused, IsRefused};
 ghost use Rattle.hpf_syntax.specs.Plain.{ItemTree, item_tree};
 ghost use Rattle.hpf_syntax.specs.Partial.{max_expression};
 ghost use Rattle.hpf_syntax.specs.Reading.{Gives};
 ghost use Rattle.hpf_syntax.specs.Statements.{line_at, statement_at, statements_at, text_at};
-ghost use Rattle.hpf_syntax.specs.Refusal.{refusal_of, Refuses, IfRefused, IsRead, IsRefused};
+ghost use Rattle.hpf_syntax.specs.Refusal.{refusal_of, Refuses, IsRead};
 ghost use Rattle.hpf_syntax.specs.FirstFault.{code_of, SpellsShortly, IsRefusalOf};
 
 use crate::declare::fortran;

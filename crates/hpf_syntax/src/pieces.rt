@@ -1,15 +1,15 @@
 //! Names, arguments and other pieces of statements.
 
-ghost use Rattle.std.specs.Prelude.{◌≡◌, List, option_map};
+ghost use Rattle.std.specs.Prelude.{◌≡◌, List, map, option_map};
 ghost use Rattle.hpf_syntax.specs.Plain.{Tree, tree};
 ghost use Rattle.hpf_syntax.specs.Reading.{Gives, rest_of, first_place};
 ghost use Rattle.hpf_syntax.specs.Partial.{expression_at, max_expression};
-ghost use Rattle.hpf_syntax.specs.Statements.{first_word, name_at, argument_at, name_argument_at, colon_at, colons_names_at};
+ghost use Rattle.hpf_syntax.specs.Statements.{first_word, name_at, argument_at, name_argument_at, colon_at, maybe_list_at};
 ghost use Rattle.hpf_syntax.specs.declared.tree.Spot.{Spot};
 
 use crate::expression::{expression, place};
 use crate::list::List;
-use crate::rule::{Rule, behind, separated, take};
+use crate::rule::{Rule, behind, enclosed, take};
 use crate::stop::{Fault, Stop, bad};
 use crate::terminal::{Terminal, begins};
 use crate::tree::{At, Expr, Spot};
@@ -120,11 +120,17 @@ pub(crate) fn colon(alloc: Global, tokens: &[Token]) -> Result<(Option<Expr>, &[
     }
 }
 
-/// Two colons, and names.
-#[tactic(auto, unfolding(crate::specs::Statements::colons_names_at, crate::specs::Statements::names_at))]
-pub(crate) fn colons_names(alloc: Global, tokens: &[Token]) -> Result<(List<Spot>, &[Token]), Stop>
-    ensures { Gives (λ x. (x.0, x.1.now)) result (colons_names_at tokens.now) }
+/// A list in parentheses, if it stands there.
+#[tactic(auto, unfolding(crate::specs::Statements::maybe_list_at))]
+pub(crate) fn maybe_list<R: Rule>(
+    alloc: Global,
+    tokens: &[Token],
+) -> Result<(Option<List<R::Value>>, &[Token]), Stop>
+    ensures { Gives (λ x. (option_map (map R.tree) x.0, x.1.now)) result (maybe_list_at R.reading tokens.now) }
 {
-    let rest = take(Terminal::DoubleColon, tokens)?;
-    separated::<NameRule>(alloc, rest)
+    if !begins(Terminal::LeftParen, tokens) {
+        return Ok((None, tokens));
+    }
+    let (list, rest) = enclosed::<R>(alloc, Terminal::LeftParen, Terminal::RightParen, tokens)?;
+    Ok((Some(list), rest))
 }

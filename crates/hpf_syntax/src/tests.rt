@@ -1,4 +1,5 @@
 mod canonical;
+mod sizes;
 
 use super::*;
 use hpf_lex::{MapError, Word, tokens};
@@ -463,7 +464,7 @@ fn try_rows(
 #[test]
 fn rows(rt: HostRuntime) -> Result<(), Fail> {
     assert_eq!(rt; try_rows(&rt, ACCEPTED, false)?, 54);
-    assert_eq!(rt; try_rows(&rt, REFUSED, false)?, 103);
+    assert_eq!(rt; try_rows(&rt, REFUSED, false)?, 108);
     assert_eq!(rt; try_rows(&rt, LONG, false)?, 15);
     assert_eq!(rt; try_rows(&rt, PLACES, true)?, 9);
     Ok(())

@@ -62,6 +62,11 @@ pub const ACCEPTED: &str = "\
 /// A token that no text has there.
 pub const REFUSED: &str = "\
     INTEGER BLOCK~refused 10 at 1:9|\
+    INTEGER DYNAMIC~refused 10 at 1:9|\
+    INTEGER INHERIT~refused 10 at 1:9|\
+    INTEGER REALIGN~refused 10 at 1:9|\
+    INTEGER REDISTRIBUTE~refused 10 at 1:9|\
+    INTEGER REDUCE~refused 10 at 1:9|\
     INTEGER~refused 10 at 1:8|\
     INTEGER ::~refused 10 at 1:11|\
     INTEGER (A)~refused 10 at 1:9|\

@@ -13,4 +13,4 @@ returns-clause-only c =
       not_blank = c.spelled_token.ensures.no_blank;
       numeral = c.numeral.ensures;
     } in
-    same_text laws c.proper_tokens.ensures c.one_line_each.ensures
+    same_text laws c.proper_tokens.ensures c.one_line_each.ensures.marks

@@ -11,4 +11,4 @@ returns-clause-read_again c =
       not_blank = c.spelled_token.ensures.no_blank;
       numeral = c.numeral.ensures;
     } in
-    if_printed laws c.proper_tokens.ensures c.one_line_each.ensures (map item_tree c.args.items.now) c.lines.result c.requires.parsed (rw c.as_slice.ensures at c.lines.ensures)
+    if_printed laws c.proper_tokens.ensures c.one_line_each.ensures.tokens (map item_tree c.args.items.now) c.lines.result c.requires.parsed (rw c.as_slice.ensures at c.lines.ensures)
