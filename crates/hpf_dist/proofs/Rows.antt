@@ -4,6 +4,7 @@ use Rattle.std.specs.List.{range_with_len}
 use Rattle.hpf_dist.specs.Owner.{own, ceiling, even_block}
 use Rattle.hpf_dist.specs.Axis.{before, extent, Suits, Breaks}
 use Rattle.hpf_dist.specs.Axis.Breaks.{TooSmall}
+use Rattle.hpf_dist.specs.Spread.{owner_at, spread}
 use Rattle.hpf_dist.specs.declared.format.Format.TheVariants.{Block}
 use Rattle.hpf_dist.specs.declared.refusal.AxisRefusal.TheVariants.{BlockTooSmall}
 
@@ -38,3 +39,8 @@ two_too_small = TooSmall 2 (omega arith) (omega arith)
 
 three_suits : Suits 10 4 (Block 3)
 three_suits = record { some = omega arith; enough = omega arith }
+
+-- every other position from 10 down to 2, in blocks of three: the owners, one after another
+owners_downwards : map (owner_at (record { low = pos 1; high = pos 10; procs = 4; format = Block 3 })) (spread (pos 10) (negsuc 1) 5)
+    ≡ 3 ∷ 2 ∷ 1 ∷ 1 ∷ 0 ∷ []
+owners_downwards = refl

@@ -1,7 +1,9 @@
 //! One divided dimension.
 
-ghost use Rattle.std.specs.Prelude.{◌≡◌, ◌<◌, ◌≤◌, ◌≤ℤ◌, ◌↔◌, IsOk, IfOk, IsNone};
+ghost use Rattle.std.specs.Prelude.{◌≡◌, ◌==◌, ◌<◌, ◌≤◌, ◌≤ℤ◌, ◌↔◌, All, IsOk, IfOk, IsNone};
+ghost use Rattle.std.specs.List.{list_any};
 ghost use Rattle.hpf_dist.specs.Owner.{own, ceiling};
+ghost use Rattle.hpf_dist.specs.Spread.{IsPosition, owner_at, spread};
 ghost use Rattle.hpf_dist.specs.Axis.{AreBounds, AreProcs, HasSmallNumbers, Suits, Breaks, extent, before};
 ghost use Rattle.hpf_dist.specs.declared.refusal.AxisRefusal.{AxisRefusal};
 
@@ -72,6 +74,36 @@ impl Axis {
         match self.format {
             Format::Block(width) => (before / width) as u32,
         }
+    }
+
+    /// Whether the processor of coordinate `c` owns one of the positions `first`, `first + step`, `first + 2 * step` and
+    /// so on, `count` of them.
+    pub fn owns_any(&self, c: u32, first: i64, step: i64, count: u64) -> bool
+        requires positions { All (IsPosition self.now) (spread first step count) }
+        ensures { result ≡ list_any (λ t. owner_at self.now t == c) (spread first step count) }
+    {
+        // (a step of 0 stays at the first one)
+        let tries = if step == 0 { count.min(1) } else { count };
+        self.owns_one_of(c, first, step, tries)
+    }
+
+    /// The same, by trying each of them.
+    fn owns_one_of(&self, c: u32, first: i64, step: i64, count: u64) -> bool
+        requires positions { All (IsPosition self.now) (spread first step count) }
+        ensures { result ≡ list_any (λ t. owner_at self.now t == c) (spread first step count) }
+    {
+        // (positions lie between the axis's bounds, so no sum of them is too great)
+        let _ = &self.low;
+        let mut t = first;
+        for k in 0..count {
+            if self.owner(t) == c {
+                return true;
+            }
+            if k + 1 < count {
+                t += step;
+            }
+        }
+        false
     }
 }
 

@@ -1,6 +1,8 @@
 //! Worked rows.
 
+ghost use Rattle.std.specs.Prelude.{All};
 ghost use Rattle.hpf_dist.specs.Axis.{AreBounds, AreProcs, HasSmallNumbers};
+ghost use Rattle.hpf_dist.specs.Spread.{IsPosition, spread};
 
 use super::*;
 use std::alloc::Global;
@@ -54,4 +56,30 @@ fn even_widths(rt: HostRuntime) {
     assert_eq!(rt; even_width(9, 4), 3);
     assert_eq!(rt; even_width(8, 4), 2);
     assert_eq!(rt; even_width(1, 64), 1);
+}
+
+/// Which of four coordinates own one of these positions.
+fn coordinates(axis: &Axis, first: i64, step: i64, count: u64) -> [bool; 4]
+    requires positions { All (IsPosition axis.now) (spread first step count) }
+{
+    [
+        axis.owns_any(0, first, step, count),
+        axis.owns_any(1, first, step, count),
+        axis.owns_any(2, first, step, count),
+        axis.owns_any(3, first, step, count),
+    ]
+}
+
+#[test]
+fn owns_any(rt: HostRuntime) -> Result<(), Fail> {
+    let axis = Axis::new(rt.alloc(), 1, 10, 4, Format::Block(3))?;
+    let upwards = coordinates(&axis, 1, 4, 3);
+    let downwards = coordinates(&axis, 10, -6, 2);
+    let one = coordinates(&axis, 7, 0, 5);
+    let none = coordinates(&axis, 7, 1, 0);
+    assert_eq!(rt; upwards, [true, true, true, false]);
+    assert_eq!(rt; downwards, [false, true, false, true]);
+    assert_eq!(rt; one, [false, false, true, false]);
+    assert_eq!(rt; none, [false, false, false, false]);
+    Ok(())
 }

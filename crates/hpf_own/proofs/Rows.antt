@@ -1,0 +1,104 @@
+-- Rows worked out by hand, so that a wrong definition is noticed.
+use Rattle.std.proofs.Common.{◌≡◌, ℕ, true, false, List, [], ◌∷◌, map, Some, None, pos, negsuc, refl}
+use Rattle.hpf_num.specs.declared.run.Run.{Run}
+use Rattle.hpf_dist.specs.declared.format.Format.TheVariants.{Block}
+use Rattle.hpf_own.specs.declared.image.Image.{Image}
+use Rattle.hpf_own.specs.declared.image.Image.TheVariants.{Along, Fixed, Spread}
+use Rattle.hpf_own.specs.declared.image.Cut.{Cut}
+use Rattle.hpf_own.specs.declared.image.Cut.TheVariants.{Whole, Over}
+use Rattle.hpf_own.specs.declared.image.BaseDim.{BaseDim}
+use Rattle.hpf_own.specs.Space.{indices}
+use Rattle.hpf_own.specs.Image.{images}
+use Rattle.hpf_own.specs.Mapping.{PlainMapping}
+use Rattle.hpf_own.specs.Owners.{coordinates, owners, sender, sends, next_owner}
+
+abbrev run : ℕ → ℕ → Run
+run low high = record { low = pos low; high = pos high }
+
+-- blocks of so many positions from 1 to high, over n processors, in this dimension of the arrangement
+abbrev blocks : ℕ → ℕ → ℕ → ℕ → Cut
+blocks e high n width = Over e (record { low = pos 1; high = pos high; procs = n; format = Block width })
+
+abbrev dim : Image → Cut → BaseDim
+dim image cut = record { image = image; cut = cut }
+
+-- an array of one dimension from 1 to high
+abbrev line : ℕ → List BaseDim → List ℕ → PlainMapping
+line high dims procs = record { bounds = run 1 high ∷ []; dims = dims; procs = procs; shadow = record { low = 0; high = 0 } ∷ [] }
+
+-- the owners of its elements, one after another
+abbrev table : PlainMapping → List (List ℕ)
+table m = map (λ index. owners m index) (indices m.bounds)
+
+-- element order of a 2 by 3 array: the first subscript varies fastest
+order_2_3 : indices (run 1 2 ∷ run 1 3 ∷ []) ≡
+    (pos 1 ∷ pos 1 ∷ []) ∷ (pos 2 ∷ pos 1 ∷ []) ∷ (pos 1 ∷ pos 2 ∷ []) ∷ (pos 2 ∷ pos 2 ∷ []) ∷ (pos 1 ∷ pos 3 ∷ []) ∷ (pos 2 ∷ pos 3 ∷ []) ∷ []
+order_2_3 = refl
+
+-- a lower bound below 0
+order_from_below : indices (record { low = negsuc 0; high = pos 1 } ∷ []) ≡ (negsuc 0 ∷ []) ∷ (pos 0 ∷ []) ∷ (pos 1 ∷ []) ∷ []
+order_from_below = refl
+
+-- the processors of P(2,3)
+coordinates_2_3 : map (coordinates (2 ∷ 3 ∷ [])) (0 ∷ 1 ∷ 2 ∷ 3 ∷ 4 ∷ 5 ∷ []) ≡
+    (0 ∷ 0 ∷ []) ∷ (1 ∷ 0 ∷ []) ∷ (0 ∷ 1 ∷ []) ∷ (1 ∷ 1 ∷ []) ∷ (0 ∷ 2 ∷ []) ∷ (1 ∷ 2 ∷ []) ∷ []
+coordinates_2_3 = refl
+
+-- A(10) BLOCK on P(4)
+ten : PlainMapping
+ten = line 10 (dim (Along 0 (pos 1) (pos 0)) (blocks 0 10 4 3) ∷ []) (4 ∷ [])
+
+owners_of_ten : table ten ≡ (0 ∷ []) ∷ (0 ∷ []) ∷ (0 ∷ []) ∷ (1 ∷ []) ∷ (1 ∷ []) ∷ (1 ∷ []) ∷ (2 ∷ []) ∷ (2 ∷ []) ∷ (2 ∷ []) ∷ (3 ∷ []) ∷ []
+unfolding ten
+owners_of_ten = refl
+
+-- A(I) with T(11-I), T(10) BLOCK on P(4)
+turned : PlainMapping
+turned = line 10 (dim (Along 0 (negsuc 0) (pos 11)) (blocks 0 10 4 3) ∷ []) (4 ∷ [])
+
+owners_turned : table turned ≡ (3 ∷ []) ∷ (2 ∷ []) ∷ (2 ∷ []) ∷ (2 ∷ []) ∷ (1 ∷ []) ∷ (1 ∷ []) ∷ (1 ∷ []) ∷ (0 ∷ []) ∷ (0 ∷ []) ∷ (0 ∷ []) ∷ []
+unfolding turned
+owners_turned = refl
+
+-- A(I) with T(11-2*I), T(10) BLOCK on P(2): positions 9, 7, 5, 3, 1
+owners_by_twos : table (line 5 (dim (Along 0 (negsuc 1) (pos 11)) (blocks 0 10 2 5) ∷ []) (2 ∷ [])) ≡ (1 ∷ []) ∷ (1 ∷ []) ∷ (0 ∷ []) ∷ (0 ∷ []) ∷ (0 ∷ []) ∷ []
+owners_by_twos = refl
+
+-- A(I) with T(I,*), T(4,4) (BLOCK,BLOCK) on P(2,3): processors 4 and 5 own nothing
+spread_out : PlainMapping
+spread_out = line 4 (dim (Along 0 (pos 1) (pos 0)) (blocks 0 4 2 2) ∷ dim (Spread (pos 1) (pos 1) 4) (blocks 1 4 3 2) ∷ []) (2 ∷ 3 ∷ [])
+
+owners_spread_out : table spread_out ≡ (0 ∷ 2 ∷ []) ∷ (0 ∷ 2 ∷ []) ∷ (1 ∷ 3 ∷ []) ∷ (1 ∷ 3 ∷ []) ∷ []
+unfolding spread_out
+owners_spread_out = refl
+
+-- 0 and 1 send
+senders_spread_out : map (sends spread_out) (0 ∷ 1 ∷ 2 ∷ 3 ∷ 4 ∷ 5 ∷ []) ≡ true ∷ true ∷ false ∷ false ∷ false ∷ false ∷ []
+unfolding spread_out
+senders_spread_out = refl
+
+sender_of_three : sender spread_out (pos 3 ∷ []) ≡ 1
+unfolding spread_out
+sender_of_three = refl
+
+-- the owners of element 3, one after another
+next_of_three : map (λ after. next_owner spread_out after (pos 3 ∷ [])) (None ∷ Some 0 ∷ Some 1 ∷ Some 2 ∷ Some 3 ∷ []) ≡ Some 1 ∷ Some 1 ∷ Some 3 ∷ Some 3 ∷ None ∷ []
+unfolding spread_out
+next_of_three = refl
+
+-- A(I) with T(7): one processor owns all, and the array's dimension is collapsed
+owners_fixed : table (line 3 (dim (Fixed (pos 7)) (blocks 0 10 4 3) ∷ []) (4 ∷ [])) ≡ (2 ∷ []) ∷ (2 ∷ []) ∷ (2 ∷ []) ∷ []
+owners_fixed = refl
+
+-- replicated over the positions 8 and 4 alone: part of the processors, the later one first
+owners_part : table (line 2 (dim (Spread (pos 8) (negsuc 3) 2) (blocks 0 10 4 3) ∷ []) (4 ∷ [])) ≡ (1 ∷ 2 ∷ []) ∷ (1 ∷ 2 ∷ []) ∷ []
+owners_part = refl
+
+-- A(2,2) (*,BLOCK) on P(2): a dimension that isn't divided is no matter
+owners_whole : table (record { bounds = run 1 2 ∷ run 1 2 ∷ []; dims = dim (Along 0 (pos 1) (pos 0)) Whole ∷ dim (Along 1 (pos 1) (pos 0)) (blocks 0 2 2 1) ∷ []; procs = 2 ∷ []; shadow = [] })
+    ≡ (0 ∷ []) ∷ (0 ∷ []) ∷ (1 ∷ []) ∷ (1 ∷ []) ∷ []
+owners_whole = refl
+
+-- the images of A(2) with T(I,*), T(2,2)
+images_of_two : images (dim (Along 0 (pos 1) (pos 0)) Whole ∷ dim (Spread (pos 1) (pos 1) 2) Whole ∷ []) (pos 2 ∷ []) ≡ (pos 2 ∷ pos 1 ∷ []) ∷ (pos 2 ∷ pos 2 ∷ []) ∷ []
+images_of_two = refl

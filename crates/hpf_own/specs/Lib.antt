@@ -1,0 +1,9 @@
+pub mod Kept
+pub mod Space
+pub mod Lists
+pub mod KeptLists
+pub mod Image
+pub mod Mapping
+pub mod Owners
+pub mod OwnerSet
+pub mod TestRows

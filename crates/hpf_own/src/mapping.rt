@@ -1,0 +1,262 @@
+//! A mapping of an array onto processors.
+
+ghost use Rattle.std.specs.Prelude.{◌≡◌, ◌+◌, ◌*◌, ◌^◌, ◌<◌, ◌≤◌, ℕ, length, filter, slice_index, All, IsTrue, IfOk, ◌↔◌, find};
+ghost use Rattle.hpf_own.specs.Space.{LiesIn, product};
+ghost use Rattle.hpf_own.specs.Lists.{IsBounds, IsSizes};
+ghost use Rattle.hpf_own.specs.Mapping.{AreInLimits, IsSmallWidth, IsOnePosition, FollowsBelow, follows, DividedBelow, divides, HasSizeOf, StaysWithin, HasSmallCoefficients, HasSome};
+ghost use Rattle.hpf_own.specs.Owners.{owns, owners, next_owner, sender, sends, holds, IsLeast, LeadsOf, IsWhole};
+ghost use Rattle.hpf_own.specs.OwnerSet.{IsSetOf, IsRepeated};
+
+use crate::base_dims::BaseDims;
+use crate::bounds::Bounds;
+use crate::image::{BaseDim, Cut, Image};
+use crate::owner_set::first_from;
+use crate::procs::Procs;
+use crate::sizes::Sizes;
+use crate::widths::Widths;
+use hpf_dist::{Axis, AxisRefusal, Format};
+use std::alloc::{AllocError, Global};
+use std::marker::Model;
+
+/// Where the elements of an array lie on the processors of an arrangement. It is seen as its parts: the bounds of the
+/// array, the dimensions of its base, the sizes of the arrangement and the widths of its shadow.
+#[derive(Drop)]
+pub struct Mapping {
+    bounds: Bounds,
+    dims: BaseDims,
+    procs: Sizes,
+    shadow: Widths,
+}
+
+impl Model for Mapping {
+    ghost use Rattle.hpf_own.specs.Mapping.{PlainMapping, IsMapping};
+
+    ghost Value = { PlainMapping };
+
+    ghost view = { λ m. record { bounds = m.bounds; dims = m.dims; procs = m.procs; shadow = m.shadow } };
+
+    ghost invariant = { λ m. IsMapping (record { bounds = m.bounds; dims = m.dims; procs = m.procs; shadow = m.shadow }) };
+}
+
+impl Mapping {
+    /// A mapping of these parts. Each dimension of the array stands in one image at most, and each dimension of the
+    /// arrangement in exactly one cut.
+    pub fn new(bounds: Bounds, dims: BaseDims, procs: Sizes, shadow: Widths) -> Mapping
+        requires limits { AreInLimits bounds }
+        requires one_width { length shadow ≡ length bounds }
+        requires widths { All IsSmallWidth shadow }
+        requires followed { All (λ d. FollowsBelow (length bounds) d.image) dims }
+        requires divided { All (λ d. DividedBelow (length procs) d.cut) dims }
+        requires once { (e : ℕ) → length (filter (λ d. follows e d.image) dims) ≤ 1 }
+        requires each_once { (e : ℕ) → e < length procs
+            → length (filter (λ d. divides e d.cut) dims) ≡ 1 }
+        requires sizes { All (λ d. HasSizeOf procs d.cut) dims }
+        requires within { All (λ d. StaysWithin bounds d.image d.cut) dims }
+        requires coefficients { All (λ d. HasSmallCoefficients d.image) dims }
+        requires some { All (λ d. HasSome d.image) dims }
+        ensures { result ≡ record { bounds = bounds; dims = dims; procs = procs; shadow = shadow } }
+    {
+        // (bounds and sizes are well formed, as every such list is)
+        let _ = bounds.as_slice();
+        let _ = procs.as_slice();
+        Mapping {
+            bounds,
+            dims,
+            procs,
+            shadow,
+        }
+    }
+
+    /// One processor that owns the whole array, with no shadow.
+    pub fn whole(alloc: Global, bounds: Bounds) -> Result<Mapping, AllocError>
+        requires { AreInLimits bounds }
+        ensures { IfOk result (IsWhole bounds) }
+    {
+        let shadow = Widths::none(bounds.rank());
+        let mut dims = BaseDims::new(alloc);
+        dims.push(alloc, one_position(alloc)?)?;
+        Ok(Mapping::new(bounds, dims, Sizes::one(), shadow))
+    }
+
+    /// The bounds of the array.
+    pub fn bounds(&self) -> &Bounds
+        ensures { result.now ≡ self.now.bounds }
+    {
+        &self.bounds
+    }
+
+    /// The number of processors of the arrangement.
+    pub fn procs(&self) -> u32
+        ensures { result ≡ product self.now.procs }
+    {
+        self.procs.product()
+    }
+
+    /// Whether processor `p` owns the element.
+    pub fn owns(&self, p: u32, index: &[i64]) -> bool
+        requires proc { p < product self.now.procs }
+        requires index { LiesIn self.now.bounds index.now }
+        ensures { result ≡ owns self.now p index.now }
+    {
+        let _ = &self.bounds;
+        let mut rest = p;
+        for (e, size) in self.procs.as_slice().iter().enumerate() {
+            if !self.holds(e as u32, rest % size, index) {
+                return false;
+            }
+            rest /= size;
+        }
+        true
+    }
+
+    /// The processor that sends the element: its owner with the least number.
+    pub fn sender(&self, index: &[i64]) -> u32
+        requires { LiesIn self.now.bounds index.now }
+        ensures sender { result ≡ sender self.now index.now }
+        ensures owner { IsTrue (owns self.now result index.now) }
+        ensures below { result < product self.now.procs }
+    {
+        let _ = &self.bounds;
+        let mut number = 0;
+        let mut stride = 1;
+        for (e, size) in self.procs.as_slice().iter().enumerate() {
+            number += self.least(e as u32, index) * stride;
+            stride *= size;
+        }
+        number
+    }
+
+    /// Whether processor `p` owns an element and sends it. It then sends each element that it owns, and else none.
+    pub fn sends(&self, p: u32) -> bool
+        requires { p < product self.now.procs }
+        ensures { result ≡ sends self.now p }
+    {
+        let _ = &self.bounds;
+        let mut rest = p;
+        for (e, size) in self.procs.as_slice().iter().enumerate() {
+            if !self.leads(e as u32, rest % size) {
+                return false;
+            }
+            rest /= size;
+        }
+        true
+    }
+
+    /// Whether coordinate `c` in dimension `e` of the arrangement is that of the sender of some element.
+    fn leads(&self, e: u32, c: u32) -> bool
+        ensures { IsTrue result ↔ LeadsOf self.now.bounds c (find (λ d. divides e d.cut) self.now.dims) }
+    {
+        let _ = &self.bounds;
+        for dim in self.dims.as_slice() {
+            if dim.is_over(e) {
+                return dim.leads(c, self.bounds.as_slice());
+            }
+        }
+        false
+    }
+
+    /// The owner of the element that comes next after processor `after`, or the first one where that is None.
+    pub fn next_owner(&self, after: Option<u32>, index: &[i64]) -> Option<u32>
+        requires { LiesIn self.now.bounds index.now }
+        ensures { result ≡ next_owner self.now after index.now }
+    {
+        let set = self.owner_set(index);
+        match after {
+            None => first_from(set, 0),
+            Some(p) => first_from(set, p.min(63) + 1),
+        }
+    }
+
+    /// The owners of the element, ascending.
+    pub fn owners(&self, alloc: Global, index: &[i64]) -> Result<Procs, AllocError>
+        requires { LiesIn self.now.bounds index.now }
+        ensures { IfOk result (λ procs. procs ≡ owners self.now index.now) }
+    {
+        let set = self.owner_set(index);
+        let mut procs = Procs::new(alloc);
+        let mut from = 0;
+        while let Some(p) = first_from(set, from) {
+            procs.push(p)?;
+            from = p + 1;
+        }
+        Ok(procs)
+    }
+
+    /// The owners of the element, as a set.
+    fn owner_set(&self, index: &[i64]) -> u64
+        requires { LiesIn self.now.bounds index.now }
+        ensures owners { IsSetOf (λ p. owns self.now p index.now) (product self.now.procs) result }
+        ensures few { product self.now.procs ≤ 64 }
+    {
+        let _ = &self.bounds;
+        let mut set = 1;
+        let mut stride = 1;
+        for (e, size) in self.procs.as_slice().iter().enumerate() {
+            set = self.repeated(e as u32, *size, set, stride, index);
+            stride *= size;
+        }
+        set
+    }
+
+    /// A set of processors below a stride, repeated for each coordinate in dimension `e` of the arrangement that owns a
+    /// position of the element.
+    fn repeated(&self, e: u32, size: u32, set: u64, stride: u32, index: &[i64]) -> u64
+        requires index { LiesIn self.now.bounds index.now }
+        requires some { 1 ≤ stride }
+        requires few { stride * size ≤ 64 }
+        requires below { set < 2 ^ stride }
+        ensures { IsRepeated (holds self.now.dims index.now e) set stride size result }
+    {
+        let mut all = 0;
+        for c in 0..size {
+            if self.holds(e, c, index) {
+                all |= set << (c * stride);
+            }
+        }
+        all
+    }
+
+    /// The least coordinate in dimension `e` of the arrangement that owns a position of the element.
+    fn least(&self, e: u32, index: &[i64]) -> u32
+        requires dimension { e < length self.now.procs }
+        requires index { LiesIn self.now.bounds index.now }
+        ensures least { IsLeast (holds self.now.dims index.now e) result }
+        ensures below { result < slice_index self.now.procs e }
+    {
+        let _ = &self.bounds;
+        for dim in self.dims.as_slice() {
+            if dim.is_over(e) {
+                return dim.least(index);
+            }
+        }
+        unreachable!()
+    }
+
+    /// Whether coordinate `c` in dimension `e` of the arrangement owns a position of the element.
+    fn holds(&self, e: u32, c: u32, index: &[i64]) -> bool
+        requires index { LiesIn self.now.bounds index.now }
+        ensures { result ≡ holds self.now.dims index.now e c }
+    {
+        let _ = &self.bounds;
+        for dim in self.dims.as_slice() {
+            if dim.is_over(e) {
+                return dim.holds(c, index);
+            }
+        }
+        false
+    }
+}
+
+/// A dimension of a base with one position, 1, divided over one processor: all elements of an array lie there.
+fn one_position(alloc: Global) -> Result<BaseDim, AllocError>
+    ensures { IfOk result IsOnePosition }
+{
+    match Axis::new(alloc, 1, 1, 1, Format::Block(1)) {
+        Ok(axis) => Ok(BaseDim {
+            image: Image::Fixed(1),
+            cut: Cut::Over { dim: 0, axis },
+        }),
+        Err(AxisRefusal::Memory(error)) => Err(error),
+        Err(_) => unreachable!(),
+    }
+}
