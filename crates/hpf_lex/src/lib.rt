@@ -13,6 +13,7 @@ mod refusal;
 mod scan;
 mod token;
 mod word;
+mod word_order;
 
 pub use laws::{
     cut_into_tokens, first_fault, longest_token, numeral, one_line_each, one_reading,

@@ -9,7 +9,7 @@ use crate::bytes::{is_letter, is_name_byte, upper};
 use std::marker::Model;
 
 /// A name or a reserved word: at most 31 bytes, in upper case. It is seen as the list of its bytes.
-#[derive(Clone, Copy, PartialEq, Eq)]
+#[derive(Clone, Copy)]
 pub struct Word {
     bytes: [u8; 31],
     len: u8,

@@ -3,5 +3,7 @@
 #![tactic(auto)]
 
 pub mod canonical;
+pub mod commands;
+pub mod constraints;
 pub mod grammar;
 pub mod tokens;

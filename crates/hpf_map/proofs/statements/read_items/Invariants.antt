@@ -1,0 +1,9 @@
+use Rattle.hpf_syntax.specs.Plain.{item_tree}
+use Rattle.hpf_map.specs.Declarations.{names_after}
+use Rattle.hpf_map.specs.Layers.{ordered_breaches}
+use Rattle.hpf_map.proofs.DeclareLemmas.{Threads}
+use Rattle.hpf_map.proofs.statements.read_items.Given as goal
+
+abbrev pub invariant-loop-item : goal.invariant-loop-item
+invariant-loop-item l =
+    Threads item_tree names_after ordered_breaches l.items l.item-index l.initial.names l.names l.initial.breaches l.breaches

@@ -1,0 +1,13 @@
+pub mod Constraint
+pub mod Found
+pub mod Known
+pub mod Index
+pub mod Hidden
+pub mod Uses
+pub mod Values
+pub mod Gathered
+pub mod Shapes
+pub mod Constants
+pub mod Declarations
+pub mod Expressions
+pub mod Layers

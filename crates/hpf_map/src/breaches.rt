@@ -1,0 +1,65 @@
+//! The breach that comes first.
+
+ghost use Rattle.std.specs.Prelude.{◌≡◌, [], ◌∷◌, Some, None};
+ghost use Rattle.hpf_map.specs.Constraint.{breach, breach_if};
+ghost use Rattle.hpf_map.specs.Found.{least_with};
+
+use crate::constraint::Constraint;
+use hpf_lex::MapRefusal;
+use hpf_syntax::At;
+use std::marker::Model;
+
+/// The breaches that were found so far. Only the one that comes first by line, column and code is kept, and that is what
+/// they are seen as.
+#[derive(Drop)]
+pub(crate) struct Breaches {
+    least: Option<MapRefusal>,
+}
+
+impl Model for Breaches {
+    ghost use Rattle.std.specs.Prelude.{Option};
+    ghost use Rattle.hpf_lex.specs.declared.refusal.MapRefusal.{MapRefusal};
+
+    ghost Value = { Option MapRefusal };
+
+    ghost view = { λ b. b.least };
+}
+
+impl Breaches {
+    /// No breach.
+    pub(crate) fn new() -> Breaches
+        ensures { result ≡ None }
+    {
+        Breaches { least: None }
+    }
+
+    /// The breach that comes first.
+    pub(crate) fn least(&self) -> Option<MapRefusal>
+        ensures { result ≡ self.now }
+    {
+        self.least
+    }
+
+    /// Takes a breach at this place in.
+    #[tactic(auto, unfolding(crate::specs::Found::least_with))]
+    pub(crate) fn note(&mut self, constraint: Constraint, at: At)
+        ensures { self.new ≡ least_with self.old (breach constraint at ∷ []) }
+    {
+        let found = constraint.at(at);
+        let least = self.least;
+        self.least = match least {
+            Some(least) if !found.comes_before(&least) => Some(least),
+            _ => Some(found),
+        };
+    }
+
+    /// Takes a breach at this place in, where the constraint is broken.
+    #[tactic(auto, using(crate::proofs::FoundLemmas::least_with_laws))]
+    pub(crate) fn note_if(&mut self, broken: bool, constraint: Constraint, at: At)
+        ensures { self.new ≡ least_with self.old (breach_if broken constraint at) }
+    {
+        if broken {
+            self.note(constraint, at);
+        }
+    }
+}

@@ -1,0 +1,52 @@
+//! The constraints of a mapping text.
+
+ghost use Rattle.std.specs.Prelude.{◌≡◌};
+
+use hpf_lex::MapRefusal;
+use hpf_syntax::At;
+
+/// What the statements of a mapping text may break.
+#[derive(Clone, Copy, Debug, PartialEq, Eq)]
+pub enum Constraint {
+    /// A name is declared that an earlier place declares.
+    Twice,
+    /// A name is used that nothing declares, or in an expression that nothing declares before.
+    Unknown,
+    /// A name is used for what it isn't.
+    Kind,
+    /// A number of dimensions or of values differs from what it should be.
+    Rank,
+    /// An upper bound is below its lower bound.
+    Empty,
+    /// A value, a number of bounds, of elements or of names, or an extent is too great.
+    Limit,
+}
+
+impl Constraint {
+    ghost use Rattle.hpf_map.specs.Constraint.{code_of, breach};
+
+    /// The code number of a refusal for it.
+    pub fn code(self) -> u8
+        ensures { result ≡ code_of self }
+    {
+        match self {
+            Constraint::Twice => 21,
+            Constraint::Unknown => 22,
+            Constraint::Kind => 23,
+            Constraint::Rank => 24,
+            Constraint::Empty => 25,
+            Constraint::Limit => 26,
+        }
+    }
+
+    /// The refusal of a text that breaks it at this place.
+    pub(crate) fn at(self, at: At) -> MapRefusal
+        ensures { result ≡ breach self at }
+    {
+        MapRefusal {
+            code: self.code(),
+            line: at.line,
+            column: at.column,
+        }
+    }
+}

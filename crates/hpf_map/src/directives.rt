@@ -1,0 +1,179 @@
+//! Expressions in directives and in pipeline lines.
+
+ghost use Rattle.std.specs.Prelude.{◌≡◌, List, map, option_map, OnOk};
+ghost use Rattle.std.specs.List.{flat_map};
+ghost use Rattle.hpf_syntax.specs.Plain.{Tree, tree, FormatTree, format_tree, WidthTree, width_tree, op_tree, sub_tree, item_tree};
+ghost use Rattle.hpf_lex.specs.declared.refusal.MapRefusal.{MapRefusal};
+ghost use Rattle.hpf_map.specs.declared.name.Name.{Name};
+ghost use Rattle.hpf_map.specs.Expressions.{format_breaches, width_breaches, list_breaches, operation_breaches, subscripts_breaches, directive_breaches};
+ghost use Rattle.hpf_map.specs.Found.{least_with};
+ghost use Rattle.hpf_map.specs.Values.{expression_breaches, maybe_expression_breaches};
+
+use crate::breaches::Breaches;
+use crate::dummies::dummies_of;
+use crate::expressions::{expression, test_subscripts};
+use crate::scope::Scope;
+use hpf_syntax::{Expr, FormatItem, Item, List, OpItem, SourceItem, SubItem, WidthItem};
+use std::alloc::{AllocError, Global};
+
+/// What lists in a directive are made of, with the breaches of the expressions in it.
+trait Part {
+    ghost Tree: { Type 0 };
+
+    ghost tree: { Self → Tree };
+
+    ghost found: { List Name → Tree → List MapRefusal };
+
+    fn test(&self, scope: &Scope, breaches: &mut Breaches)
+        ensures { breaches.new ≡ least_with breaches.old (found scope.now (tree self.now)) };
+}
+
+impl Part for Expr {
+    ghost Tree = { Tree };
+
+    ghost tree = { tree };
+
+    ghost found = { expression_breaches };
+
+    fn test(&self, scope: &Scope, breaches: &mut Breaches) {
+        let _ = expression(scope, self, breaches);
+    }
+}
+
+impl Part for FormatItem {
+    ghost Tree = { FormatTree };
+
+    ghost tree = { format_tree };
+
+    ghost found = { format_breaches };
+
+    #[tactic(auto, using(crate::proofs::FoundLemmas::least_with_laws), unfolding(crate::specs::Expressions::format_breaches))]
+    fn test(&self, scope: &Scope, breaches: &mut Breaches) {
+        match self {
+            FormatItem::Block(_, width) | FormatItem::Cyclic(_, width) => {
+                test_maybe(scope, width, breaches);
+            }
+            FormatItem::Star(_) | FormatItem::GenBlock(..) | FormatItem::Indirect(..) => {}
+        }
+    }
+}
+
+impl Part for WidthItem {
+    ghost Tree = { WidthTree };
+
+    ghost tree = { width_tree };
+
+    ghost found = { width_breaches };
+
+    #[tactic(auto, using(crate::proofs::FoundLemmas::least_with_laws), unfolding(crate::specs::Expressions::width_breaches))]
+    fn test(&self, scope: &Scope, breaches: &mut Breaches) {
+        self.low.test(scope, breaches);
+        test_maybe(scope, &self.high, breaches);
+    }
+}
+
+/// The breaches in each of a list.
+#[tactic(auto, using(crate::proofs::FoundLemmas::least_with_laws))]
+fn test_each<P: Part>(scope: &Scope, parts: &[P], breaches: &mut Breaches)
+    ensures { breaches.new ≡ least_with breaches.old
+        (flat_map (P.found scope.now) (map P.tree parts.now)) }
+{
+    for part in parts {
+        part.test(scope, breaches);
+    }
+}
+
+/// The breaches in an expression, if there is one.
+#[tactic(auto, using(crate::proofs::FoundLemmas::least_with_laws))]
+fn test_maybe(scope: &Scope, e: &Option<Expr>, breaches: &mut Breaches)
+    ensures { breaches.new ≡ least_with breaches.old
+        (maybe_expression_breaches scope.now (option_map tree e.now)) }
+{
+    if let Some(e) = e {
+        e.test(scope, breaches);
+    }
+}
+
+/// The breaches in a list of expressions, if there is one.
+#[tactic(auto, using(crate::proofs::FoundLemmas::least_with_laws))]
+fn test_list(scope: &Scope, list: &Option<List<Expr>>, breaches: &mut Breaches)
+    ensures { breaches.new ≡ least_with breaches.old
+        (list_breaches scope.now (option_map (map tree) list.now)) }
+{
+    if let Some(list) = list {
+        test_each(scope, list.as_slice(), breaches);
+    }
+}
+
+/// The breaches in an operation.
+#[tactic(auto, using(crate::proofs::FoundLemmas::least_with_laws), unfolding(crate::specs::Expressions::operation_breaches))]
+fn test_operation(scope: &Scope, op: &OpItem, breaches: &mut Breaches)
+    ensures { breaches.new ≡ least_with breaches.old
+        (operation_breaches scope.now (op_tree op.now)) }
+{
+    match op {
+        OpItem::Plain => {}
+        OpItem::Add(_, e) | OpItem::Mul(_, e) | OpItem::Prefix(_, e) => e.test(scope, breaches),
+        OpItem::Stencil(_, e, weights) => {
+            e.test(scope, breaches);
+            test_each(scope, weights.as_slice(), breaches);
+        }
+    }
+}
+
+/// The breaches in the subscripts of an ALIGN.
+#[tactic(auto, using(crate::proofs::FoundLemmas::least_with_laws))]
+fn test_align(
+    alloc: Global,
+    scope: &Scope,
+    sources: &Option<List<SourceItem>>,
+    subs: &Option<List<SubItem>>,
+    breaches: &mut Breaches,
+) -> Result<(), AllocError>
+    ensures { OnOk result (breaches.new ≡ least_with breaches.old
+        (subscripts_breaches scope.now sources.now (option_map (map sub_tree) subs.now))) }
+{
+    let dummies = dummies_of(alloc, sources)?;
+    if let Some(subs) = subs {
+        test_subscripts(scope, &dummies, subs.as_slice(), breaches);
+    }
+    Ok(())
+}
+
+/// The breaches in the expressions of a directive or of a pipeline line.
+#[tactic(auto, using(crate::proofs::FoundLemmas::least_with_laws), unfolding(crate::specs::Expressions::directive_breaches))]
+pub(crate) fn test_directive(
+    alloc: Global,
+    scope: &Scope,
+    item: &Item,
+    breaches: &mut Breaches,
+) -> Result<(), AllocError>
+    ensures { OnOk result (breaches.new ≡ least_with breaches.old
+        (directive_breaches scope.now (item_tree item.now))) }
+{
+    match item {
+        Item::Distribute { formats, .. } => test_each(scope, formats.as_slice(), breaches),
+        Item::Align { sources, subs, .. } => test_align(alloc, scope, sources, subs, breaches)?,
+        Item::Shadow { widths, .. } => test_each(scope, widths.as_slice(), breaches),
+        Item::Input { buffers, op, .. } => {
+            test_maybe(scope, buffers, breaches);
+            test_operation(scope, op, breaches);
+        }
+        Item::Stage {
+            permute,
+            buffers,
+            op,
+            ..
+        } => {
+            test_list(scope, permute, breaches);
+            test_maybe(scope, buffers, breaches);
+            test_operation(scope, op, breaches);
+        }
+        Item::ImplicitNone(_)
+        | Item::Variables { .. }
+        | Item::Constants { .. }
+        | Item::Processors(_)
+        | Item::Template(_) => {}
+    }
+    Ok(())
+}

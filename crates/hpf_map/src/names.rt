@@ -1,0 +1,90 @@
+//! The names that are declared.
+
+ghost use Rattle.std.specs.Prelude.{◌≡◌, [], ◌∷◌, ◌++◌, length, OnOk, option_copied};
+ghost use Rattle.hpf_map.specs.Known.{known, declare, is_full};
+
+use crate::name::Name;
+use hpf_lex::Word;
+use std::alloc::{AllocError, Global};
+use std::collections::BTreeMap;
+use std::marker::Model;
+
+/// How many names a text may declare.
+const MAX_NAMES: usize = 1024;
+
+/// The names that a text declares, each as its first declaration makes it. It is seen as the list of them, in the order
+/// of the text.
+#[derive(Drop)]
+pub struct Names {
+    names: Vec<Name>,
+    /// The place of each word among them.
+    places: BTreeMap<Word, usize>,
+}
+
+impl Model for Names {
+    ghost use Rattle.std.specs.Prelude.{List};
+    ghost use Rattle.hpf_map.specs.declared.name.Name.{Name};
+
+    ghost Value = { List Name };
+
+    ghost use Rattle.hpf_map.specs.Index.{HasPlaces};
+
+    ghost view = { λ n. n.names.items };
+
+    ghost invariant = { λ n. HasPlaces n.names.items n.places };
+}
+
+impl Names {
+    /// No names.
+    pub(crate) fn new(alloc: Global) -> Names
+        ensures { result ≡ [] }
+    {
+        Names {
+            names: Vec::new(alloc),
+            places: BTreeMap::new(alloc),
+        }
+    }
+
+    /// The names, in the order of the text.
+    pub fn as_slice(&self) -> &[Name]
+        ensures { result.now ≡ self.now }
+    {
+        self.names.as_slice()
+    }
+
+    /// What is known of a word. None where nothing declares it.
+    pub fn find(&self, word: &Word) -> Option<&Name>
+        ensures { option_copied result ≡ known self.now word.now }
+    {
+        match self.places.get(word) {
+            Some(place) => Some(&self.names[*place]),
+            None => None,
+        }
+    }
+
+    /// Whether the next name is the first that is too many.
+    pub(crate) fn is_full(&self) -> bool
+        ensures { result ≡ is_full self.now }
+    {
+        self.names.len() == MAX_NAMES
+    }
+
+    /// Declares a name, where nothing declares it yet.
+    pub(crate) fn declare(&mut self, name: Name) -> Result<(), AllocError>
+        ensures { OnOk result (self.new ≡ declare self.old name) }
+    {
+        if self.find(&name.word).is_some() {
+            return Ok(());
+        }
+        let word = name.word;
+        let place = self.names.len();
+        self.names.push(name)?;
+        match self.places.insert(word, place) {
+            Ok(_) => Ok(()),
+            Err(_) => {
+                self.names.pop();
+                Err(AllocError)
+            }
+        }
+    }
+}

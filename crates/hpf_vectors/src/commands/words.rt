@@ -1,0 +1,115 @@
+//! Rows for the words of the command line, and for the file that they name.
+
+/// Words that are refused, and files that are there or not.
+pub(super) const ROWS: &str = r#"
+# Words
+
+row a file by the name of an action
+words run show run
+file run | integer a(3)
+
+row a file with no name
+words "" show ""
+file "" | integer a(3)
+
+row a file with a blank in its name, and others
+words hpfturn show "a map"
+file a | integer b(4)
+file "a map" | integer a(3)
+file map | integer c(5)
+
+row no words
+words
+file M @ M13
+input @ F3
+
+row the program's name alone
+words hpfturn
+file M @ M13
+input @ F3
+
+row no map
+words hpfturn run
+file M @ M13
+input @ F3
+
+row a name behind the map
+words hpfturn run M A
+file M @ M13
+input @ F3
+
+row an action in another case
+words hpfturn Run M
+file M @ M13
+input @ F3
+
+row an action with a letter more
+words hpfturn runs M
+file M @ M13
+input @ F3
+
+row another action in capital letters
+words hpfturn SHOW M
+file M @ M13
+input @ F3
+
+row an action that isn't there yet
+words hpfturn check M
+file M @ M13
+input @ F3
+
+row a map that begins with a hyphen
+words hpfturn run -
+file - @ M13
+input @ F3
+
+row two hyphens
+words hpfturn show --
+file -- @ M13
+input @ F3
+
+row action and map the wrong way round
+words hpfturn M run
+file M @ M13
+input @ F3
+
+# Maps that aren't loaded
+
+row a map that the loader doesn't hold
+words hpfturn run N
+file M @ M13
+input @ F3
+
+row a map to be shown that the loader doesn't hold
+words hpfturn show N
+file M @ M13
+
+row a name in another case
+words hpfturn run m
+file M @ M13
+input @ F3
+
+row a load that fails, and isn't tried again
+words hpfturn run M
+file M @ M13
+input @ F3
+loader fails 0
+
+row a load of a map to be shown that fails
+words hpfturn show M
+file M @ M13
+loader fails 0
+
+row the second load would fail
+words hpfturn run M
+file M @ M13
+input @ F3
+loader fails 1 2
+
+row calls of the loader, the input and the notes that a faulty command line doesn't make
+words hpfturn
+loader fails 0
+input fails 0
+out fails 0
+notes fails 0
+"#;
