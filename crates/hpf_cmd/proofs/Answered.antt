@@ -1,153 +1,201 @@
--- What was given is a front of the answer to what the source held.
-use Rattle.std.proofs.Common.{◌≡◌, ℕ, ◌+◌, ℤ, List, [], ◌∷◌, ◌++◌, length, Option, Some, refl, sym, ap, ◌∙◌, subst, append_assoc, append-nil, arith, length-append}
-use Rattle.std.proofs.lemmas.List.{map-append}
+-- What a flow gives, seen from the answer to what the source held.
+use Rattle.std.proofs.Common.{◌≡◌, ℕ, ◌+◌, ℤ, List, [], ◌∷◌, ◌++◌, length, map, Option, Some, refl, sym, ap, ◌∙◌, subst, append_assoc, append-nil, arith, length-append}
 use Rattle.hpf_io.specs.Bytes.{Takes, Adds, AddsPrefix, IsPrefix}
-use Rattle.hpf_io.specs.Moves.{AddsPrefix-front}
-use Rattle.hpf_frame.specs.FrameFile.{IsFile, BreaksAfter, IsBroken, AreFrames, elements, HasHeader, header, header_length, record_of, records, end_of, front_of, file_of}
-use Rattle.hpf_frame.specs.Answers.{IsOver, LacksHeader, TakesWrong}
+use Rattle.hpf_io.specs.Moves.{AddsPrefix-front, AddsPrefix-whole}
+use Rattle.hpf_frame.specs.FrameFile.{IsFile, BreaksAfter, AreFrames, elements, HasHeader, header, record_of, records, end_of, front_of, file_of}
+use Rattle.hpf_frame.specs.Answers.{IsOver}
 use Rattle.hpf_frame.specs.Readings.{whole_begins, broken_begins, whole_is_unbroken}
-use Rattle.hpf_cmd.specs.MarkLines.{mark_lines}
-use Rattle.hpf_cmd.specs.Pipeline.{Pipeline, one_stage, folded, outputs, output_front, output_file, Answers, Whole, Broken, Headless}
-use Rattle.hpf_cmd.specs.Run.{AnswerBegins, Front, File, GivesPrefix, Nothing, Begins, IsSure, IsUnsureOfAnswer, Finishes, StopsReading, InHeader, InRecord, HoldsNoFile, WrongHeader, WrongRecord}
+use Rattle.hpf_cmd.specs.declared.status.Status.{Status}
+use Rattle.hpf_cmd.specs.declared.status.Status.TheVariants as status
+use Rattle.hpf_cmd.specs.Answered.{GivesAnswer}
+use Rattle.hpf_cmd.specs.Outside.{OfSource, OfSink, Rises, Stays, IsSure, Fails}
+use Rattle.hpf_cmd.specs.Flow.{Flow, Reach, NoHeader, After, bodies, begun, whole, given_for, IsGoodTo, Answers, Whole, Broken}
+use Rattle.std.proofs.lemmas.List.{length-map}
+use Rattle.hpf_cmd.specs.Pipeline.{Pipeline, folded, output_file, run_flow}
+use Rattle.hpf_cmd.specs.Streams.{ReadsFile, ReadsFront, ReadsTo, ReadsWrong, Stops, Unwritten, Unclosed, Refused, Unread, Ends, Finished, Unnoted, Stopped, Streams}
 
-records-append : (frame : ℕ) (xs ys : List (List ℤ)) → records frame (xs ++ ys) ≡ records frame xs ++ records (frame + length xs) ys
-records-append frame [] ys = ap (λ (k : ℕ). records k ys) (omega arith)
-records-append frame (x ∷ xs) ys =
-    ap (λ (bs : List ℕ). record_of frame x ++ bs) (records-append (frame + 1) xs ys ∙ ap (λ (k : ℕ). records (frame + 1) xs ++ records k ys) (omega arith))
-    ∙ sym (append_assoc (record_of frame x) (records (frame + 1) xs) (records (frame + length (x ∷ xs)) ys))
+bodies-append : (flow : Flow) (number : ℕ) (xs ys : List (List ℤ)) → bodies flow number (xs ++ ys) ≡ bodies flow number xs ++ bodies flow (number + length xs) ys
+bodies-append flow number [] ys = ap (λ (k : ℕ). bodies flow k ys) (omega arith)
+bodies-append flow number (x ∷ xs) ys =
+    ap (λ (bs : List ℕ). flow.frame number x ++ bs) (bodies-append flow (number + 1) xs ys ∙ ap (λ (k : ℕ). bodies flow (number + 1) xs ++ bodies flow k ys) (omega arith))
+    ∙ sym (append_assoc (flow.frame number x) (bodies flow (number + 1) xs) (bodies flow (number + length (x ∷ xs)) ys))
 
-front-append : (extents : List ℕ) (xs ys : List (List ℤ)) → front_of extents (xs ++ ys) ≡ front_of extents xs ++ records (0 + length xs) ys
-front-append extents xs ys =
-    ap (λ (bs : List ℕ). header extents ++ bs) (records-append 0 xs ys) ∙ sym (append_assoc (header extents) (records 0 xs) (records (0 + length xs) ys))
+-- what is given for some frames begins what is given for them and more
+begun_begins : (flow : Flow) (all read more : List (List ℤ)) → all ≡ read ++ more → IsPrefix (begun flow read) (begun flow all)
+begun_begins flow all read more e =
+    (_, ap (begun flow) e ∙ (ap (λ (bs : List ℕ). flow.front ++ bs) (bodies-append flow 0 read more) ∙ sym (append_assoc flow.front (bodies flow 0 read) (bodies flow (0 + length read) more))))
 
--- the front of more frames is a front of these, and more
-output_front-more : (pipeline : Pipeline) (all read more : List (List ℤ)) → all ≡ read ++ more → (rest : List ℕ) × (output_front pipeline all ≡ output_front pipeline read ++ rest)
-output_front-more pipeline all read more e =
-    (_, ap (output_front pipeline) e ∙ (ap (front_of pipeline.leaves) (map-append (folded pipeline.stages) read more) ∙ front-append pipeline.leaves (outputs pipeline read) (outputs pipeline more)))
+begins_further : (xs ys zs : List ℕ) → IsPrefix xs ys → IsPrefix xs (ys ++ zs)
+begins_further xs ys zs p = (p.0 ++ zs, ap (λ (bs : List ℕ). bs ++ zs) p.1 ∙ append_assoc xs p.0 zs)
 
--- what the source held, where it tells
+begins_itself : (xs ys : List ℕ) → xs ≡ ys → IsPrefix xs ys
+begins_itself xs ys e = ([], sym e ∙ sym (append-nil xs))
+
+-- ---- what the source held, where it tells
+
 held : {a b : Option (List ℕ)} {bytes : List ℕ} (input rest : List ℕ) → Takes a b bytes → a ≡ Some input → b ≡ Some rest → input ≡ bytes ++ rest
 held input rest taken before after = let e = taken.told rest after in cc
 
 has_header : (extents : List ℕ) (read : List (List ℤ)) (rest input : List ℕ) → input ≡ front_of extents read ++ rest → HasHeader extents input
-has_header extents read rest input e =
-    (records 0 read ++ rest, e ∙ append_assoc (header extents) (records 0 read) rest)
+has_header extents read rest input e = (records 0 read ++ rest, e ∙ append_assoc (header extents) (records 0 read) rest)
 
-front_begins : {a b : Option (List ℕ)} (pipeline : Pipeline) (read : List (List ℤ)) (more input rest text : List ℕ) → AreFrames (elements pipeline.enters) read → Takes a b (front_of pipeline.enters read ++ more) → a ≡ Some input → b ≡ Some rest → Answers pipeline input text → IsPrefix (output_front pipeline read) text
-front_begins pipeline read more input rest text are taken before after (Whole frames file) =
-    let e : input ≡ front_of pipeline.enters read ++ (more ++ rest) = held input rest taken before after ∙ append_assoc (front_of pipeline.enters read) more rest in
-    let begins = whole_begins pipeline.enters frames read _ input file are e in
-    let further = output_front-more pipeline frames read begins.0 begins.1 in (
-      further.0 ++ end_of (length (outputs pipeline frames)),
-      ap (λ (bs : List ℕ). bs ++ end_of (length (outputs pipeline frames))) further.1 ∙ append_assoc (output_front pipeline read) further.0 (end_of (length (outputs pipeline frames))),
-    )
-front_begins pipeline read more input rest text are taken before after (Broken frames breaks) =
-    let e : input ≡ front_of pipeline.enters read ++ (more ++ rest) = held input rest taken before after ∙ append_assoc (front_of pipeline.enters read) more rest in
-    let begins = broken_begins pipeline.enters frames read _ input breaks are e in
-    output_front-more pipeline frames read begins.0 begins.1
-front_begins pipeline read more input rest text are taken before after (Headless lacks) =
-    absurd (lacks (has_header pipeline.enters read (more ++ rest) input (held input rest taken before after ∙ append_assoc (front_of pipeline.enters read) more rest)))
+file_has_header : (extents : List ℕ) (frames : List (List ℤ)) (input : List ℕ) → IsFile extents frames input → HasHeader extents input
+file_has_header extents frames input file = has_header extents frames _ input file.bytes_are
 
 only_longer : (xs ys more : List (List ℤ)) → xs ≡ ys ++ more → length more ≡ 0 → xs ≡ ys
 only_longer xs ys [] e none = e ∙ append-nil ys
 only_longer xs ys (x ∷ more) e none = absurd (omega arith)
 
--- two files of the same bytes have the same frames
-same_frames : (extents : List ℕ) (xs ys : List (List ℤ)) (bytes : List ℕ) → IsFile extents xs bytes → IsFile extents ys bytes → xs ≡ ys
+same_length : (xs ys more others : List (List ℤ)) → xs ≡ ys ++ more → ys ≡ xs ++ others → xs ≡ ys
+same_length xs ys more others e f = only_longer xs ys more e (omega (arith, ap length e, ap length f, length-append ys more, length-append xs others))
+
+-- a file and a break have their frames alone
+pub same_frames : (extents : List ℕ) (xs ys : List (List ℤ)) (bytes : List ℕ) → IsFile extents xs bytes → IsFile extents ys bytes → xs ≡ ys
 same_frames extents xs ys bytes f g =
     let onward = whole_begins extents xs ys _ bytes f g.frames_are g.bytes_are in
     let back = whole_begins extents ys xs _ bytes g f.frames_are f.bytes_are in
-    only_longer xs ys onward.0 onward.1 (omega (arith, ap length onward.1, ap length back.1, length-append ys onward.0, length-append xs back.0))
+    same_length xs ys onward.0 back.0 onward.1 back.1
 
-file_held : {a b : Option (List ℕ)} (extents : List ℕ) (read : List (List ℤ)) (input rest : List ℕ) → AreFrames (elements extents) read → Takes a b (file_of extents read) → IsOver b → a ≡ Some input → b ≡ Some rest → IsFile extents read input
-file_held extents read input rest are taken over before after = record {
-  frames_are = are;
-  bytes_are = held input rest taken before after ∙ (ap (λ (bs : List ℕ). file_of extents read ++ bs) (over rest after) ∙ append-nil (file_of extents read));
-}
-
-file_begins : (pipeline : Pipeline) (read : List (List ℤ)) (input text : List ℕ) → IsFile pipeline.enters read input → Answers pipeline input text → IsPrefix (output_file pipeline read) text
-file_begins pipeline read input text is (Whole frames file) =
-    ([], ap (output_file pipeline) (same_frames pipeline.enters frames read input file is) ∙ sym (append-nil (output_file pipeline read)))
-file_begins pipeline read input text is (Broken frames breaks) = absurd (whole_is_unbroken pipeline.enters read frames input is breaks)
-file_begins pipeline read input text is (Headless lacks) = absurd (lacks (has_header pipeline.enters read _ input is.bytes_are))
-
--- the answer begins so, whatever is left
-begins_answer : {a b : Option (List ℕ)} (pipeline : Pipeline) {begin : List ℕ} (input rest text : List ℕ) → AnswerBegins pipeline a b begin → a ≡ Some input → b ≡ Some rest → Answers pipeline input text → IsPrefix begin text
-begins_answer pipeline input rest text (Front read are more taken) before after answers = front_begins pipeline read more input rest text are taken before after answers
-begins_answer pipeline input rest text (File read are taken over) before after answers =
-    file_begins pipeline read input text (file_held pipeline.enters read input rest are taken over before after) answers
-
-pub prefix_answered : {a b c d : Option (List ℕ)} (pipeline : Pipeline) (input rest text : List ℕ) → GivesPrefix pipeline a b c d → a ≡ Some input → b ≡ Some rest → Answers pipeline input text → AddsPrefix c d text
-prefix_answered pipeline input rest text (Nothing none) before after answers = ([], (text, refl), none)
-prefix_answered {c = c} {d} pipeline input rest text (Begins begin begins prefix) before after answers =
-    let more = begins_answer pipeline input rest text begins before after answers in
-    subst (AddsPrefix c d) (sym more.1) (AddsPrefix-front more.0 prefix)
-
--- a sink that is sure of an answer is sure of its front
-sure_front : {K : Type 0} (takes : K → ℕ → Type 0) (sink : K) (front text : List ℕ) → IsPrefix front text → IsSure takes sink text → IsSure takes sink front
-sure_front takes sink front text begins sure =
-    (length begins.0 + sure.0, subst (takes sink) (omega (arith, ap length begins.1, length-append front begins.0)) sure.1)
-
-pub unsure_answered : {K : Type 0} {takes : K → ℕ → Type 0} {sink : K} {a b : Option (List ℕ)} (pipeline : Pipeline) (input rest text : List ℕ) → IsUnsureOfAnswer takes sink pipeline a b → a ≡ Some input → b ≡ Some rest → Answers pipeline input text → ¬ IsSure takes sink text
-unsure_answered {takes = takes} {sink} pipeline input rest text unsure before after answers = λ sure.
-    unsure.unsure (sure_front takes sink unsure.text text (begins_answer pipeline input rest text unsure.begins before after answers) sure)
-
--- the frames of a run that finished are those of the file that the source held
-finished_frames : {a b c d : Option (List ℕ)} {flushed : ℕ} (pipeline : Pipeline) (all read : List (List ℤ)) (input rest : List ℕ) → Finishes pipeline all a b c d flushed → a ≡ Some input → b ≡ Some rest → IsFile pipeline.enters read input → all ≡ read
-finished_frames pipeline all read input rest done before after file =
-    same_frames pipeline.enters all read input (file_held pipeline.enters all input rest done.frames_are done.taken done.over before after) file
-
--- a sink that is not sure of the marks of what was read is not sure of those of the file
-pub unsure_marked : {K : Type 0} (takes : K → ℕ → Type 0) {sink : K} {a b c d : Option (List ℕ)} {flushed : ℕ} (size procs : ℕ) (all read : List (List ℤ)) (input rest : List ℕ) → Finishes (one_stage size) all a b c d flushed → a ≡ Some input → b ≡ Some rest → IsFile (size ∷ []) read input → ¬ IsSure takes sink (mark_lines size procs all) → ¬ IsSure takes sink (mark_lines size procs read)
-unsure_marked takes {sink} size procs all read input rest done before after file unsure =
-    subst (λ (fs : List (List ℤ)). ¬ IsSure takes sink (mark_lines size procs fs)) (finished_frames (one_stage size) all read input rest done before after file) unsure
-
-no_header : {a b : Option (List ℕ)} (pipeline : Pipeline) (input rest : List ℕ) → TakesWrong a b (header_length (length pipeline.enters) + 1) (LacksHeader pipeline.enters) → a ≡ Some input → b ≡ Some rest → LacksHeader pipeline.enters input
-no_header pipeline input rest wrong before after = subst (LacksHeader pipeline.enters) (sym (held input rest wrong.taken before after)) (wrong.wrong rest after)
-
-breaks_held : {a b : Option (List ℕ)} (pipeline : Pipeline) (frames : List (List ℤ)) (front input rest : List ℕ) → AreFrames (elements pipeline.enters) frames → Takes a b (front_of pipeline.enters frames ++ front) → ((rest : List ℕ) → b ≡ Some rest → IsBroken (elements pipeline.enters) (length frames) (front ++ rest)) → a ≡ Some input → b ≡ Some rest → BreaksAfter pipeline.enters frames input
-breaks_held pipeline frames front input rest are taken broken before after = record {
-  frames_are = are;
-  rest = front ++ rest;
-  bytes_are = held input rest taken before after ∙ append_assoc (front_of pipeline.enters frames) front rest;
-  broken = broken rest after;
-}
-
-pub no_file_held : {a b c d : Option (List ℕ)} (pipeline : Pipeline) (input rest : List ℕ) (read : List (List ℤ)) → HoldsNoFile pipeline a b c d → a ≡ Some input → b ≡ Some rest → IsFile pipeline.enters read input → ⊥
-no_file_held pipeline input rest read (WrongHeader wrong none) before after file =
-    no_header pipeline input rest wrong before after (has_header pipeline.enters read _ input file.bytes_are)
-no_file_held pipeline input rest read (WrongRecord frames are front few taken broken added) before after file =
-    whole_is_unbroken pipeline.enters read frames input file (breaks_held pipeline frames front input rest are taken broken before after)
-
--- a run that finished has read a file
-pub file_read : {a b c d : Option (List ℕ)} {flushed : ℕ} (pipeline : Pipeline) (all : List (List ℤ)) (input rest : List ℕ) → Finishes pipeline all a b c d flushed → a ≡ Some input → b ≡ Some rest → IsFile pipeline.enters all input
-file_read pipeline all input rest done before after = file_held pipeline.enters all input rest done.frames_are done.taken done.over before after
-
--- two breaks of the same bytes stand behind the same frames
 same_break : (extents : List ℕ) (xs ys : List (List ℤ)) (bytes : List ℕ) → BreaksAfter extents xs bytes → BreaksAfter extents ys bytes → xs ≡ ys
 same_break extents xs ys bytes f g =
     let onward = broken_begins extents xs ys _ bytes f g.frames_are g.bytes_are in
     let back = broken_begins extents ys xs _ bytes g f.frames_are f.bytes_are in
-    only_longer xs ys onward.0 onward.1 (omega (arith, ap length onward.1, ap length back.1, length-append ys onward.0, length-append xs back.0))
+    same_length xs ys onward.0 back.0 onward.1 back.1
 
-broken_answer : {c d : Option (List ℕ)} (pipeline : Pipeline) (frames : List (List ℤ)) (input text : List ℕ) → BreaksAfter pipeline.enters frames input → Adds c d (output_front pipeline frames) → Answers pipeline input text → Adds c d text
-broken_answer pipeline frames input text broken added (Whole others file) = absurd (whole_is_unbroken pipeline.enters others frames input file broken)
-broken_answer {c} {d} pipeline frames input text broken added (Broken others breaks) =
-    subst (λ (fs : List (List ℤ)). Adds c d (output_front pipeline fs)) (same_break pipeline.enters frames others input broken breaks) added
-broken_answer pipeline frames input text broken added (Headless lacks) = absurd (lacks (has_header pipeline.enters frames _ input broken.bytes_are))
+-- a file isn't good to less than its end
+pub file_is_good : (extents : List ℕ) (frames : List (List ℤ)) (input : List ℕ) (reach : Reach) → IsFile extents frames input → IsGoodTo extents input reach → ⊥
+file_is_good extents frames input NoHeader file lacks = lacks (file_has_header extents frames input file)
+file_is_good extents frames input (After read) file breaks = whole_is_unbroken extents frames read input file breaks
 
-headless_answer : {c d : Option (List ℕ)} (pipeline : Pipeline) (input text : List ℕ) → LacksHeader pipeline.enters input → Adds c d [] → Answers pipeline input text → Adds c d text
-headless_answer pipeline input text lacks none (Whole frames file) = absurd (lacks (has_header pipeline.enters frames _ input file.bytes_are))
-headless_answer pipeline input text lacks none (Broken frames breaks) = absurd (lacks (has_header pipeline.enters frames _ input breaks.bytes_are))
-headless_answer pipeline input text lacks none (Headless also) = none
+-- bytes are good so far, and that alone
+one_reach : (extents : List ℕ) (input : List ℕ) (a b : Reach) → IsGoodTo extents input a → IsGoodTo extents input b → a ≡ b
+one_reach extents input NoHeader NoHeader f g = refl
+one_reach extents input NoHeader (After frames) f g = absurd (f (has_header extents frames _ input g.bytes_are))
+one_reach extents input (After frames) NoHeader f g = absurd (g (has_header extents frames _ input f.bytes_are))
+one_reach extents input (After xs) (After ys) f g = ap After (same_break extents xs ys input f g)
 
--- where the input was refused, all of the answer was given
-pub refused_answered : {a b c d : Option (List ℕ)} (pipeline : Pipeline) (input rest text : List ℕ) → HoldsNoFile pipeline a b c d → a ≡ Some input → b ≡ Some rest → Answers pipeline input text → Adds c d text
-refused_answered pipeline input rest text (WrongHeader wrong none) before after answers =
-    headless_answer pipeline input text (no_header pipeline input rest wrong before after) none answers
-refused_answered pipeline input rest text (WrongRecord frames are front few taken broken added) before after answers =
-    broken_answer pipeline frames input text (breaks_held pipeline frames front input rest are taken broken before after) added answers
+-- ---- what was read is of what the source held
 
-pub refused_stops : {a b c d : Option (List ℕ)} (pipeline : Pipeline) → HoldsNoFile pipeline a b c d → StopsReading pipeline (header_length (length pipeline.enters) + 1) a b c d
-refused_stops pipeline (WrongHeader wrong none) = InHeader (wrong.front, wrong.few, wrong.taken) none
-refused_stops pipeline (WrongRecord frames are front few taken broken added) = InRecord frames are front few taken added
+pub file_held : {S : Type 0} {s : OfSource S} {old new : S} (enters : List ℕ) (frames : List (List ℤ)) (input rest : List ℕ) → ReadsFile s enters frames old new → s.left old ≡ Some input → s.left new ≡ Some rest → IsFile enters frames input
+file_held enters frames input rest read before after = record {
+  frames_are = read.frames_are;
+  bytes_are = held input rest read.taken before after ∙ (ap (λ (bs : List ℕ). file_of enters frames ++ bs) (read.over rest after) ∙ append-nil (file_of enters frames));
+}
+
+front_held : {S : Type 0} {s : OfSource S} {old new : S} (enters : List ℕ) (frames : List (List ℤ)) (more input rest : List ℕ) → ReadsFront s enters frames more old new → s.left old ≡ Some input → s.left new ≡ Some rest → input ≡ front_of enters frames ++ (more ++ rest)
+front_held enters frames more input rest read before after = held input rest read.taken before after ∙ append_assoc (front_of enters frames) more rest
+
+pub wrong_held : {S : Type 0} (s : OfSource S) {old new : S} (enters : List ℕ) (reach : Reach) (more input rest : List ℕ) → ReadsWrong s enters reach more old new → s.left old ≡ Some input → s.left new ≡ Some rest → IsGoodTo enters input reach
+wrong_held s enters NoHeader more input rest read before after = λ has. read.2 rest after (has.0, sym (held input rest read.1 before after) ∙ has.1)
+wrong_held s enters (After frames) more input rest read before after = record {
+  frames_are = read.1.frames_are;
+  rest = more ++ rest;
+  bytes_are = front_held enters frames more input rest read.1 before after;
+  broken = read.2 rest after;
+}
+
+-- ---- the answer
+
+-- what is given for frames that the input begins with begins the answer
+front_answers : (flow : Flow) (frames : List (List ℤ)) (rest input text : List ℕ) → AreFrames (elements flow.enters) frames → input ≡ front_of flow.enters frames ++ rest → Answers flow input text → IsPrefix (begun flow frames) text
+front_answers flow frames rest input text are e (Whole all file is) =
+    let begins = whole_begins flow.enters all frames rest input file are e in
+    subst (IsPrefix (begun flow frames)) (sym is) (begins_further (begun flow frames) (begun flow all) _ (begun_begins flow all frames begins.0 begins.1))
+front_answers flow frames rest input text are e (Broken NoHeader lacks is) = absurd (lacks (has_header flow.enters frames rest input e))
+front_answers flow frames rest input text are e (Broken (After all) breaks is) =
+    let begins = broken_begins flow.enters all frames rest input breaks are e in
+    subst (IsPrefix (begun flow frames)) (sym is) (begun_begins flow all frames begins.0 begins.1)
+
+file_answers : (flow : Flow) (frames : List (List ℤ)) (input text : List ℕ) → IsFile flow.enters frames input → Answers flow input text → whole flow frames ≡ text
+file_answers flow frames input text file (Whole all other is) = ap (whole flow) (same_frames flow.enters frames all input file other) ∙ sym is
+file_answers flow frames input text file (Broken reach good is) = absurd (file_is_good flow.enters frames input reach file good)
+
+broken_answers : (flow : Flow) (reach : Reach) (input text : List ℕ) → IsGoodTo flow.enters input reach → Answers flow input text → given_for flow reach ≡ text
+broken_answers flow reach input text good (Whole all file is) = absurd (file_is_good flow.enters all input reach file good)
+broken_answers flow reach input text good (Broken other good' is) = ap (given_for flow) (one_reach flow.enters input reach other good good') ∙ sym is
+
+-- what is given for an input as far as it was read begins the answer
+reach_answers : {S : Type 0} (s : OfSource S) {old new : S} (flow : Flow) (reach : Reach) (more input rest text : List ℕ) → ReadsTo s flow.enters reach more old new → s.left old ≡ Some input → s.left new ≡ Some rest → Answers flow input text → IsPrefix (given_for flow reach) text
+reach_answers s flow NoHeader more input rest text read before after answers = (text, refl)
+reach_answers s flow (After frames) more input rest text read before after answers =
+    front_answers flow frames _ input text read.1.frames_are (front_held flow.enters frames more input rest read.1 before after) answers
+
+longer_prefix : {a b : Option (List ℕ)} (xs ys : List ℕ) → AddsPrefix a b xs → IsPrefix xs ys → AddsPrefix a b ys
+longer_prefix {a} {b} xs ys p begins = subst (AddsPrefix a b) (sym begins.1) (AddsPrefix-front begins.0 p)
+
+-- a sink that is sure of a text is sure of its front
+pub sure_front : {K : Type 0} (takes : K → ℕ → Type 0) (sink : K) (front text : List ℕ) → IsPrefix front text → IsSure takes sink text → IsSure takes sink front
+sure_front takes sink front text begins sure =
+    (length begins.0 + sure.0, subst (takes sink) (omega (arith, ap length begins.1, length-append front begins.0)) sure.1)
+
+-- ---- the ends of a flow
+
+as_status : (before after : Option (List ℕ)) (text : List ℕ) (end other : Status) → end ≡ other → GivesAnswer before after text other → GivesAnswer before after text end
+as_status before after text end other is given = subst (λ (z : Status). GivesAnswer before after text z) (sym is) given
+
+stop_answers : {S K : Type 0} {s : OfSource S} {k : OfSink K} {flow : Flow} {frames_old frames_new : S} {out_old out_new : K} {end : Status} → Stops s k flow frames_old frames_new out_old out_new end
+    → (input rest text : List ℕ) → s.left frames_old ≡ Some input → s.left frames_new ≡ Some rest → Answers flow input text → GivesAnswer (k.given out_old) (k.given out_new) text end
+stop_answers {flow = flow} {end = end} (Unwritten is frames more read counted fails) input rest text before after answers =
+    as_status _ _ text end _ is (longer_prefix (begun flow frames) text fails.prefix (front_answers flow frames _ input text read.frames_are (front_held flow.enters frames more input rest read before after) answers))
+stop_answers {flow = flow} {end = end} (Unclosed is frames read fails) input rest text before after answers =
+    as_status _ _ text end _ is (longer_prefix (whole flow frames) text fails.prefix (begins_itself _ _ (file_answers flow frames input text (file_held flow.enters frames input rest read before after) answers)))
+stop_answers {k = k} {flow} {out_old = out_old} {out_new} {end} (Refused code offset is code_is reach more read counted gives) input rest text before after answers =
+    as_status _ _ text end _ is (subst (Adds (k.given out_old) (k.given out_new)) (broken_answers flow reach input text (wrong_held _ flow.enters reach more input rest read before after) answers) gives.added)
+stop_answers {flow = flow} {end = end} (Unread is reach more read rises gives) input rest text before after answers =
+    as_status _ _ text end _ is (longer_prefix (given_for flow reach) text (AddsPrefix-whole gives.added) (reach_answers _ flow reach more input rest text read before after answers))
+
+answered : {S K N : Type 0} {s : OfSource S} {k : OfSink K} {n : OfSink N} {flow : Flow} {frames_old frames_new : S} {out_old out_new : K} {notes_old notes_new : N} {end : Status} → Ends s k n flow frames_old frames_new out_old out_new notes_old notes_new end
+    → (input rest text : List ℕ) → s.left frames_old ≡ Some input → s.left frames_new ≡ Some rest → Answers flow input text → GivesAnswer (k.given out_old) (k.given out_new) text end
+answered {k = k} {flow = flow} {out_old = out_old} {out_new} {end = end} (Finished is frames read flushes gives) input rest text before after answers =
+    as_status _ _ text end _ is (subst (Adds (k.given out_old) (k.given out_new)) (file_answers flow frames input text (file_held flow.enters frames input rest read before after) answers) flushes.added)
+answered {flow = flow} {end = end} (Unnoted is frames read flushes fails) input rest text before after answers =
+    as_status _ _ text end _ is (longer_prefix (whole flow frames) text (AddsPrefix-whole flushes.added) (begins_itself _ _ (file_answers flow frames input text (file_held flow.enters frames input rest read before after) answers)))
+answered (Stopped stops idle) input rest text before after answers = stop_answers stops input rest text before after answers
+
+-- out failed within the answer, so it was not sure to take it
+pub stop_unsure : {S K : Type 0} {s : OfSource S} {k : OfSink K} {flow : Flow} {frames_old frames_new : S} {out_old out_new : K} {end : Status} → Stops s k flow frames_old frames_new out_old out_new end
+    → end ≡ status.WriteFault → (input rest text : List ℕ) → s.left frames_old ≡ Some input → s.left frames_new ≡ Some rest → Answers flow input text → ¬ IsSure k.takes out_old text
+stop_unsure {k = k} {flow} {out_old = out_old} (Unwritten is frames more read counted fails) fault input rest text before after answers =
+    λ sure. fails.unsure (sure_front k.takes out_old _ text (front_answers flow frames _ input text read.frames_are (front_held flow.enters frames more input rest read before after) answers) sure)
+stop_unsure {k = k} {flow} {out_old = out_old} (Unclosed is frames read fails) fault input rest text before after answers =
+    λ sure. fails.unsure (sure_front k.takes out_old _ text (begins_itself _ _ (file_answers flow frames input text (file_held flow.enters frames input rest read before after) answers)) sure)
+stop_unsure (Refused code offset is code_is reach more read counted gives) fault input rest text before after answers = absurd cc
+stop_unsure (Unread is reach more read rises gives) fault input rest text before after answers = absurd cc
+
+stop_fails : {S K : Type 0} {s : OfSource S} {k : OfSink K} {flow : Flow} {frames_old frames_new : S} {out_old out_new : K} {end : Status} → Stops s k flow frames_old frames_new out_old out_new end
+    → end ≡ status.WriteFault → Rises (k.faults out_old) (k.faults out_new)
+stop_fails (Unwritten is frames more read counted fails) fault = fails.failed
+stop_fails (Unclosed is frames read fails) fault = fails.failed
+stop_fails (Refused code offset is code_is reach more read counted gives) fault = absurd cc
+stop_fails (Unread is reach more read rises gives) fault = absurd cc
+
+sure_out : {S K N : Type 0} {s : OfSource S} {k : OfSink K} {n : OfSink N} {flow : Flow} {frames_old frames_new : S} {out_old out_new : K} {notes_old notes_new : N} {end : Status} → Ends s k n flow frames_old frames_new out_old out_new notes_old notes_new end
+    → end ≡ status.WriteFault → (input rest text : List ℕ) → s.left frames_old ≡ Some input → s.left frames_new ≡ Some rest → Answers flow input text
+    → IsSure k.takes out_old text → Rises (n.faults notes_old) (n.faults notes_new) × Stays (k.faults out_old) (k.faults out_new)
+sure_out (Finished is frames read flushes gives) fault input rest text before after answers sure = absurd cc
+sure_out (Unnoted is frames read flushes fails) fault input rest text before after answers sure = (fails.failed, flushes.counted)
+sure_out (Stopped stops idle) fault input rest text before after answers sure = absurd (stop_unsure stops fault input rest text before after answers sure)
+
+sure_notes : {S K N : Type 0} {s : OfSource S} {k : OfSink K} {n : OfSink N} {flow : Flow} {frames_old frames_new : S} {out_old out_new : K} {notes_old notes_new : N} {end : Status} → Ends s k n flow frames_old frames_new out_old out_new notes_old notes_new end
+    → end ≡ status.WriteFault → (input rest : List ℕ) (frames : List (List ℤ)) → s.left frames_old ≡ Some input → s.left frames_new ≡ Some rest → IsFile flow.enters frames input
+    → IsSure n.takes notes_old (flow.lines frames) → Rises (k.faults out_old) (k.faults out_new) × (notes_new ≡ notes_old)
+sure_notes (Finished is all read flushes gives) fault input rest frames before after file sure = absurd cc
+sure_notes {n = n} {flow} {notes_old = notes_old} (Unnoted is all read flushes fails) fault input rest frames before after file sure =
+    absurd (fails.unsure (subst (λ (fs : List (List ℤ)). IsSure n.takes notes_old (flow.lines fs)) (same_frames flow.enters frames all input file (file_held flow.enters all input rest read before after)) sure))
+sure_notes (Stopped stops idle) fault input rest frames before after file sure = (stop_fails stops fault, idle)
+
+-- all that is said of a flow follows from its end
+pub streams : {S K N : Type 0} {s : OfSource S} {k : OfSink K} {n : OfSink N} {flow : Flow} {frames_old frames_new : S} {out_old out_new : K} {notes_old notes_new : N} {end : Status} → Ends s k n flow frames_old frames_new out_old out_new notes_old notes_new end → Streams s k n flow frames_old frames_new out_old out_new notes_old notes_new end
+streams ends = record { ends = ends; answered = answered ends; sure_out = sure_out ends; sure_notes = sure_notes ends }
+
+-- ---- what a run gives is a file
+
+bodies_are_records : (pipeline : Pipeline) (lines : List (List ℤ) → List ℕ) (number : ℕ) (frames : List (List ℤ)) → bodies (run_flow pipeline lines) number frames ≡ records number (map (folded pipeline.stages) frames)
+bodies_are_records pipeline lines number [] = refl
+bodies_are_records pipeline lines number (frame ∷ frames) =
+    ap (λ (bs : List ℕ). record_of number (folded pipeline.stages frame) ++ bs) (bodies_are_records pipeline lines (number + 1) frames)
+
+pub run_gives_file : (pipeline : Pipeline) (lines : List (List ℤ) → List ℕ) (frames : List (List ℤ)) → whole (run_flow pipeline lines) frames ≡ output_file pipeline frames
+run_gives_file pipeline lines frames =
+    ap (λ (bs : List ℕ). (header pipeline.leaves ++ bs) ++ end_of (length frames)) (bodies_are_records pipeline lines 0 frames)
+    ∙ ap (λ (n : ℕ). (header pipeline.leaves ++ records 0 (map (folded pipeline.stages) frames)) ++ end_of n) (sym (length-map frames (folded pipeline.stages)))

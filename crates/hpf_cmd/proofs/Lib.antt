@@ -2,11 +2,9 @@ pub mod Weights
 pub mod Dealt
 pub mod Grown
 pub mod SoFar
-pub mod Prefix
-pub mod MarkLinesLemmas
+pub mod Stopped
 pub mod Answered
-pub mod Asked
-pub mod Rows
+pub mod Verdicts
 pub mod Completed
+pub mod MarkLinesLemmas
 pub mod Forms
-pub mod SureEnds

@@ -1,5 +1,5 @@
 -- The parts of all processors, with their marks so far.
-use Rattle.std.specs.Prelude.{◌≡◌, ℕ, ◌+◌, ◌^◌, ℤ, pos, ◌+ℤ◌, List, map, All, unsigned_abs}
+use Rattle.std.specs.Prelude.{◌≡◌, ℕ, ◌+◌, ◌^◌, ◌≤◌, length, ℤ, pos, ◌+ℤ◌, List, map, All, unsigned_abs}
 use Rattle.std.specs.List.{range_with_len}
 use Rattle.std.specs.Int.{int_rem_euclid, IsInRange}
 use Rattle.hpf_cmd.specs.Part.{part_of, values_at}
@@ -21,6 +21,13 @@ pub record AreParts (u n : ℕ) (frames : List (List ℤ)) (parts : List Holding
 -- the positions lie in a frame of so many values
 abbrev pub IsWithin : ℕ → Holding → Type 0
 IsWithin u part = All (IsInRange 1 u) part.positions
+
+-- The parts of an array of so many elements, over at most 64 processors, have taken in these frames.
+pub record HaveTaken (u : ℕ) (parts : List Holding) (frames : List (List ℤ)) : Type 0 where
+  pub some : 1 ≤ u
+  pub few : u ≤ 2 ^ 24
+  pub procs : length parts ≤ 64
+  pub parts_are : AreParts u (length parts) frames parts
 
 -- the holding once its mark has taken in a further frame, which has this number, counted from 0
 abbrev pub marked_by : ℕ → List ℤ → Holding → Holding

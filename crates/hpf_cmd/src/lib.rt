@@ -3,8 +3,10 @@
 #![tactic(auto)]
 
 mod command;
+mod consumer;
+mod exit;
 mod first_form;
-mod form_run;
+mod laws;
 mod line;
 mod map;
 mod mark_line;
@@ -12,13 +14,17 @@ mod marks;
 mod names;
 mod part;
 mod parts;
+mod perform;
+mod print;
+mod request;
 mod run;
-mod show;
 mod status;
 mod stop;
-#[cfg(test)]
-mod tests;
+mod stream;
 mod words;
 
 pub use command::command_one;
+pub use exit::report;
+pub use laws::{a_run_gives_a_file, one_asking, one_verdict};
 pub use status::{Status, status_line};
+pub use words::Action;

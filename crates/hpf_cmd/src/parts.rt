@@ -66,6 +66,3 @@ pub(crate) fn add_frame(parts: &mut [Part], number: u32, frame: &[i32])
         part.add(number, frame);
     }
 }
-
-#[cfg(test)]
-mod tests;

@@ -1,120 +1,95 @@
-//! A run of a pipeline, frame by frame.
+//! A run of a first form: each frame leaves as it came, and the marks of all processors are told.
 
-ghost use Rattle.std.specs.Prelude.{◌≡◌, All, ℕ, ℤ, ◌<◌, ◌≤◌, ◌+◌, ◌*◌, ◌^◌, [], ◌∷◌, ◌++◌, List, true, false, length, Ok, Err, IfOk, OnOk, OnErr};
-ghost use Rattle.std.specs.Bool.{OnTrue, OnFalse};
-ghost use Rattle.hpf_io.specs.Counts.{Rose};
-ghost use Rattle.hpf_io.specs.Bytes.{Takes, TakesFewer, SameFlushed};
-ghost use Rattle.hpf_io.specs.Writes.{Writes};
-ghost use Rattle.hpf_frame.specs.FrameFile.{IsBroken, header_length, record_of, record_length, end_of};
-ghost use Rattle.hpf_frame.specs.Answers.{TakesWrong, IsOver, IsNotBuilt};
-ghost use Rattle.hpf_cmd.specs.Parts.{AreParts, IsWithin};
-ghost use Rattle.hpf_cmd.specs.Pass.{Reads, Marks};
-ghost use Rattle.hpf_cmd.specs.Pipeline.{one_stage};
-ghost use Rattle.hpf_cmd.specs.Run.{Finishes, GivesPrefix, IsUnsureOfAnswer, StopsReading, HoldsNoFile};
-ghost use Rattle.hpf_cmd.specs.Stops.{IfRefused, IfUnread, IfUnwritten};
+ghost use Rattle.std.specs.Prelude.{◌≡◌, ◌≢◌, ◌≤◌, ℕ, List, [], ◌∷◌, length, IfOk, ℤ};
+ghost use Rattle.hpf_dist.specs.Axis.{AreProcs};
+ghost use Rattle.hpf_cmd.specs.Outside.{source, sink};
+ghost use Rattle.hpf_cmd.specs.MarkLines.{mark_lines};
+ghost use Rattle.hpf_cmd.specs.Parts.{AreParts, HaveTaken};
+ghost use Rattle.hpf_cmd.specs.Pipeline.{one_stage, run_flow};
+ghost use Rattle.hpf_cmd.specs.Streams.{Ends};
 
+use crate::consumer::Consumer;
+use crate::first_form::FirstForm;
+use crate::marks::mark_lines;
 use crate::part::Part;
-use crate::parts::add_frame;
-use crate::stop::Stop;
-use hpf_frame::{Next, Progress, read_frame, read_header, write_end, write_frame, write_header};
+use crate::parts::{add_frame, parts_of};
+use crate::status::Status;
+use crate::stream::stream;
+use hpf_frame::{write_end, write_frame, write_header};
 use hpf_io::{Failed, Sink, Source};
+use std::alloc::{AllocError, Global};
 
-/// Reads the next frame into `frame`, adds its marks and writes it. False at the end of the input.
-fn pass_frame<S: Source, K: Sink>(
-    parts: &mut [Part],
-    frame: &mut [i32],
-    at: &mut Progress,
-    frames: &mut S,
-    out: &mut K,
-) -> Result<bool, Stop>
-    requires live { at.old.live ≡ true }
-    requires offset { at.old.offset ≤ 2 ^ 62 }
-    requires some { 0 < length frame.old }
-    requires few { length frame.old ≤ 65536 }
-    requires parts { All (IsWithin (length frame.old)) parts.old }
+/// The parts of an array of one dimension, with their marks so far.
+#[derive(Drop)]
+pub(crate) struct Run {
+    elements: u32,
+    parts: Vec<Part>,
+}
 
-    // A frame was read and written.
-    ensures read { IfOk result (λ more. OnTrue more (Reads (length frame.old) at.old.frames frame.new (S.left frames.old) (S.left frames.new))) }
-    ensures written { IfOk result (λ more. OnTrue more (Writes K.given K.flushed K.faults K.takes out.old out.new (Ok tt) (record_of at.old.frames frame.new))) }
-    ensures marked { IfOk result (λ more. OnTrue more (Marks (length frame.old) at.old.frames frame.new parts.old parts.new)) }
-    ensures next { IfOk result (λ more. OnTrue more (at.new ≡ record { frames = at.old.frames + 1; offset = at.old.offset + record_length (length frame.old); live = true })) }
+impl Consumer for Run {
+    ghost flow = { λ run. run_flow (one_stage (run.elements ∷ [])) (mark_lines run.elements (length run.parts.items)) };
 
-    // The end was read.
-    ensures end { IfOk result (λ more. OnFalse more (Takes (S.left frames.old) (S.left frames.new) (end_of at.old.frames))) }
-    ensures over { IfOk result (λ more. OnFalse more (IsOver (S.left frames.new))) }
-    ensures idle { IfOk result (λ more. OnFalse more (out.new ≡ out.old)) }
-    ensures count { IfOk result (λ more. OnFalse more (at.new.frames ≡ at.old.frames)) }
-    ensures same_parts { IfOk result (λ more. OnFalse more (parts.new ≡ parts.old)) }
-    ensures counted { IfOk result (λ _. S.faults frames.new ≡ S.faults frames.old) }
+    ghost has_taken = { λ run frames. HaveTaken run.elements run.parts.items frames };
 
-    // Nothing was written, since no frame was read.
-    ensures code { IfRefused result IsNotBuilt }
-    ensures refused { IfRefused result (λ _ _. TakesWrong (S.left frames.old) (S.left frames.new) (record_length (length frame.old)) (IsBroken (length frame.old) at.old.frames)) }
-    ensures refused_counted { IfRefused result (λ _ _. S.faults frames.new ≡ S.faults frames.old) }
-    ensures refused_idle { IfRefused result (λ _ _. out.new ≡ out.old) }
-    ensures unread { IfUnread result (Rose (S.faults frames.old) (S.faults frames.new)) }
-    ensures fewer { IfUnread result (TakesFewer (S.left frames.old) (S.left frames.new) (record_length (length frame.old))) }
-    ensures unread_idle { IfUnread result (out.new ≡ out.old) }
+    fn begin<K: Sink>(&self, out: &mut K) -> Result<(), Failed> {
+        write_header(out, &[self.elements])
+    }
 
-    // A frame was read, and a front of it written.
-    ensures read_unwritten { IfUnwritten result (Reads (length frame.old) at.old.frames frame.new (S.left frames.old) (S.left frames.new)) }
-    ensures unwritten_counted { IfUnwritten result (S.faults frames.new ≡ S.faults frames.old) }
-    ensures unwritten { IfUnwritten result ((e : Failed) × Writes K.given K.flushed K.faults K.takes out.old out.new (Err e) (record_of at.old.frames frame.new)) }
+    fn take<K: Sink>(&mut self, number: u32, frame: &[i32], out: &mut K) -> Result<(), Failed> {
+        add_frame(&mut self.parts, number, frame);
+        write_frame(out, number, frame)
+    }
 
-    ensures later { S.faults frames.old ≤ S.faults frames.new }
-{
-    let number = at.frames;
-    match read_frame(frames, at, frame)? {
-        Next::End => Ok(false),
-        Next::Frame => {
-            add_frame(parts, number, frame);
-            write_frame(out, number, frame)?;
-            Ok(true)
-        }
+    fn close<K: Sink>(&self, count: u32, out: &mut K) -> Result<(), Failed> {
+        write_end(out, count)
+    }
+
+    fn note<N: Sink>(&self, notes: &mut N) -> Result<(), Failed> {
+        mark_lines(&self.parts, notes)
     }
 }
 
-/// Reads an input of frames of `elements` elements, adds their marks, and writes what they become. On an error
-/// nothing but a front of the answer was written.
-pub(crate) fn run_frames<S: Source, K: Sink>(
-    elements: u32,
-    parts: &mut [Part],
-    frame: &mut [i32],
+/// Runs the frames of a form, and tells the marks of its parts.
+pub(crate) fn run_form<S: Source, K: Sink, N: Sink>(
+    alloc: Global,
+    form: FirstForm,
     frames: &mut S,
     out: &mut K,
-) -> Result<(), Stop>
-    requires some { 0 < elements }
-    requires few { elements ≤ 65536 }
-    requires frame { length frame.old ≡ elements }
-    requires parts { (n : ℕ) × AreParts elements n [] parts.old }
-
-    ensures finished { OnOk result ((all : List (List ℤ)) × Finishes (one_stage elements) all (S.left frames.old) (S.left frames.new) (K.given out.old) (K.given out.new) (K.flushed out.new)
-        × ((n : ℕ) → AreParts elements n [] parts.old → AreParts elements n all parts.new)) }
-    ensures read_counted { OnOk result (S.faults frames.new ≡ S.faults frames.old) }
-    ensures write_counted { OnOk result (K.faults out.new ≡ K.faults out.old) }
-
-    ensures prefix { OnErr result (GivesPrefix (one_stage elements) (S.left frames.old) (S.left frames.new) (K.given out.old) (K.given out.new)) }
-    ensures unflushed { OnErr result (SameFlushed (K.given out.new) (K.flushed out.old) (K.flushed out.new)) }
-
-    ensures code { IfRefused result IsNotBuilt }
-    ensures no_file { IfRefused result (λ _ _. HoldsNoFile (one_stage elements) (S.left frames.old) (S.left frames.new) (K.given out.old) (K.given out.new)) }
-    ensures refused_read_counted { IfRefused result (λ _ _. S.faults frames.new ≡ S.faults frames.old) }
-    ensures refused_write_counted { IfRefused result (λ _ _. K.faults out.new ≡ K.faults out.old) }
-    ensures unread { IfUnread result (Rose (S.faults frames.old) (S.faults frames.new)) }
-    ensures stop { IfUnread result (StopsReading (one_stage elements) (header_length 1) (S.left frames.old) (S.left frames.new) (K.given out.old) (K.given out.new)) }
-    ensures unread_write_counted { IfUnread result (K.faults out.new ≡ K.faults out.old) }
-    ensures unwritten { IfUnwritten result (Rose (K.faults out.old) (K.faults out.new)) }
-    ensures unsure { IfUnwritten result (IsUnsureOfAnswer K.takes out.old (one_stage elements) (S.left frames.old) (S.left frames.new)) }
-    ensures unwritten_read_counted { IfUnwritten result (S.faults frames.new ≡ S.faults frames.old) }
-
-    ensures read_later { S.faults frames.old ≤ S.faults frames.new }
-    ensures write_later { K.faults out.old ≤ K.faults out.new }
+    notes: &mut N,
+) -> Status
+    requires some { 1 ≤ form.elements }
+    requires few { form.elements ≤ 65536 }
+    requires procs { AreProcs form.procs }
+    ensures ends { result ≢ Status.OutOfMemory → Ends (source S.left S.faults) (sink K.given K.flushed K.faults K.takes)
+        (sink N.given N.flushed N.faults N.takes)
+        (run_flow (one_stage (form.elements ∷ [])) (mark_lines form.elements form.procs)) frames.old frames.new out.old out.new notes.old notes.new result }
+    // Want of memory comes before anything else.
+    ensures unread { result ≡ Status.OutOfMemory → frames.new ≡ frames.old }
+    ensures unwritten { result ≡ Status.OutOfMemory → out.new ≡ out.old }
+    ensures unmarked { result ≡ Status.OutOfMemory → notes.new ≡ notes.old }
 {
-    let extents = [elements];
-    let mut at = read_header(frames, &extents)?;
-    write_header(out, &extents)?;
-    while pass_frame(parts, frame, &mut at, frames, out)? {}
-    write_end(out, at.frames)?;
-    out.flush()?;
-    Ok(())
+    let Ok((mut run, mut frame)) = room_for(alloc, form) else {
+        return Status::OutOfMemory;
+    };
+    stream(&mut run, &[form.elements], &mut frame, frames, out, notes)
+}
+
+/// All memory of a run: its parts, and a frame.
+fn room_for(alloc: Global, form: FirstForm) -> Result<(Run, Vec<i32>), AllocError>
+    requires some { 1 ≤ form.elements }
+    requires few { form.elements ≤ 65536 }
+    requires procs { AreProcs form.procs }
+    ensures elements { IfOk result (λ room. room.0.elements ≡ form.elements) }
+    ensures parts { IfOk result (λ room. AreParts form.elements form.procs [] room.0.parts.items) }
+    ensures frame { IfOk result (λ room. length room.1.items ≡ form.elements) }
+{
+    let parts = parts_of(alloc, form.elements, form.procs)?;
+    let frame = vec![in alloc; 0; form.elements as usize]?;
+    Ok((
+        Run {
+            elements: form.elements,
+            parts,
+        },
+        frame,
+    ))
 }

@@ -8,8 +8,8 @@ ghost use Rattle.std.specs.Option.{option_map};
 
 use crate::line::{LONGEST, Line, plain, push_number};
 use crate::names::{input_name, map_name};
-use hpf_io::{Failed, Sink, write_all};
-use hpf_lex::MapRefusal;
+use hpf_io::{Failed, LoadError, Sink, write_all};
+use hpf_lex::{MapError, MapRefusal};
 
 /// What the command line looks like.
 const USAGE: &str =
@@ -58,15 +58,44 @@ impl Status {
 }
 
 impl From<MapRefusal> for Status {
-    ghost use Rattle.hpf_cmd.specs.declared.status.Status.TheVariants as statuses;
+    ghost use Rattle.std.specs.Prelude.{◌≡◌};
+    ghost use Rattle.hpf_cmd.specs.Statuses.{refusal_status};
 
-    ghost from_gives = { λ r status. status ≡ statuses.MapRefused r.code r.line r.column };
+    ghost from_gives = { λ r status. status ≡ refusal_status r };
 
     fn from(refusal: MapRefusal) -> Status {
         Status::MapRefused {
             code: refusal.code,
             line: refusal.line,
             column: refusal.column,
+        }
+    }
+}
+
+impl From<MapError> for Status {
+    ghost use Rattle.std.specs.Prelude.{◌≡◌};
+    ghost use Rattle.hpf_cmd.specs.Statuses.{text_status};
+
+    ghost from_gives = { λ e status. status ≡ text_status e };
+
+    fn from(error: MapError) -> Status {
+        match error {
+            MapError::Refused(refusal) => Status::from(refusal),
+            MapError::Memory(_) => Status::OutOfMemory,
+        }
+    }
+}
+
+impl From<LoadError> for Status {
+    ghost use Rattle.std.specs.Prelude.{◌≡◌};
+    ghost use Rattle.hpf_cmd.specs.Statuses.{load_status};
+
+    ghost from_gives = { λ e status. status ≡ load_status e };
+
+    fn from(error: LoadError) -> Status {
+        match error {
+            LoadError::Failed => Status::LoadFault,
+            LoadError::Memory(_) => Status::OutOfMemory,
         }
     }
 }

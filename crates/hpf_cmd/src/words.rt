@@ -6,7 +6,7 @@ ghost use Rattle.hpf_cmd.specs.declared.words.Action.{Action};
 
 /// What is done with a map.
 #[derive(Clone, Copy, Debug, PartialEq, Eq)]
-pub(crate) enum Action {
+pub enum Action {
     /// Its canonical text is printed.
     Show,
     /// Frames run through its pipeline.

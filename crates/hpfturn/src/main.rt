@@ -5,14 +5,13 @@
 ghost use Rattle.std.specs.Prelude.{◌≡◌, ◌≢◌};
 ghost use Rattle.std.specs.IoError.{error_kind};
 
-use hpf_cmd::{Status, command_one, status_line};
+use hpf_cmd::{Status, command_one, report};
 use hpf_io::{FileLoader, StdSink, StdSource};
 use std::io::ErrorKind;
 use std::process::ExitCode;
 use std::{env, io};
 
-/// Ends with the number of the status. A status other than `Ok` has a line on standard error, and where that line
-/// can't be written the number alone tells it.
+/// Ends as the call does that does what the words ask for, and tells it on standard error.
 fn main(rt: HostRuntime) -> ExitCode {
     let mut notes = StdSink::new(rt.stderr());
     let status = match words_of(&rt) {
@@ -26,10 +25,7 @@ fn main(rt: HostRuntime) -> ExitCode {
         ),
         Err(status) => status,
     };
-    if status != Status::Ok {
-        let _ = status_line(&status, &mut notes);
-    }
-    ExitCode::from(status.number())
+    ExitCode::from(report(&status, &mut notes))
 }
 
 /// The words of the command line, the program's name first.

@@ -1,0 +1,82 @@
+//! What is asked for, together with what its map means.
+
+ghost use Rattle.std.specs.Prelude.{◌≡◌, ◌≢◌, ℕ, List, map, string_bytes, Some, Err, IfOk, IfErr};
+ghost use Rattle.hpf_io.specs.Files.{Files};
+ghost use Rattle.hpf_cmd.specs.declared.status.Status.{Status};
+ghost use Rattle.hpf_cmd.specs.declared.words.Action.{Action};
+ghost use Rattle.hpf_cmd.specs.Outside.{Rises, Stays};
+ghost use Rattle.hpf_cmd.specs.Order.{Order, Granted, Denied, LoadFails, IsLoaded, Judges};
+ghost use Rattle.hpf_cmd.specs.Request.{request_tree, IsMet};
+ghost use Rattle.hpf_cmd.specs.Statuses.{IsDenial, IsOfText};
+ghost use Rattle.hpf_cmd.specs.Words.{Asks};
+
+use crate::first_form::{FirstForm, first_form};
+use crate::map::items_of;
+use crate::status::Status;
+use crate::words::{Action, command_of};
+use hpf_io::Loader;
+use hpf_lex::{MAX_TEXT, MapRefusal};
+use hpf_syntax::Items;
+use std::alloc::Global;
+
+/// What is asked for of a map.
+#[derive(Drop)]
+pub(crate) enum Request {
+    /// The canonical text of these statements is printed.
+    Show(Items),
+    /// Frames run through the pipeline of this form.
+    Run(FirstForm),
+}
+
+/// What is answered to a text that is well written, and not of the form that is run today.
+const NOT_BUILT: MapRefusal = MapRefusal {
+    code: 9,
+    line: 1,
+    column: 1,
+};
+
+/// What the words ask for of the map that they name, or the status by which it is refused.
+pub(crate) fn request_of<L: Loader>(
+    alloc: Global,
+    words: &[String],
+    texts: &mut L,
+) -> Result<Request, Status>
+    ensures granted { IfOk result (λ request. Order (map string_bytes words.now) (L.files texts.new) (Granted (request_tree request))) }
+    ensures met { IfOk result IsMet }
+    ensures denied { (status : Status) → result ≡ Err status → status ≢ Status.LoadFault → status ≢ Status.OutOfMemory
+        → Order (map string_bytes words.now) (L.files texts.new) (Denied status) }
+    ensures usage { ((action : Action) (name : List ℕ) → ¬ Asks (map string_bytes words.now) action name) → result ≡ Err (Status.Usage 1) }
+
+    ensures kinds { IfErr result IsDenial }
+
+    // The loader.
+    ensures load_fault { result ≡ Err Status.LoadFault
+        → LoadFails (map string_bytes words.now) (L.missed texts.new) (L.may_miss texts.old) × Rises (L.faults texts.old) (L.faults texts.new) }
+    ensures counted { result ≢ Err Status.LoadFault → Stays (L.faults texts.old) (L.faults texts.new) }
+    ensures same { result ≢ Err Status.LoadFault → L.missed texts.new ≡ L.missed texts.old }
+    ensures kept { (all : Files) → L.files texts.new ≡ Some all → L.files texts.old ≡ Some all }
+    ensures unasked { (code : ℕ) → result ≡ Err (Status.Usage code) → texts.new ≡ texts.old }
+{
+    let Some(command) = command_of(words) else {
+        return Err(Status::Usage { code: 1 });
+    };
+    let text = texts.load(alloc, command.map, MAX_TEXT)?;
+    request_in(alloc, command.action, text.as_slice())
+}
+
+/// What a text comes to for an action.
+fn request_in(alloc: Global, action: Action, text: &[u8]) -> Result<Request, Status>
+    ensures granted { IfOk result (λ request. Judges action text.now (Granted (request_tree request))) }
+    ensures met { IfOk result IsMet }
+    ensures denied { IfErr result (λ status. status ≢ Status.OutOfMemory → Judges action text.now (Denied status)) }
+    ensures kinds { IfErr result IsOfText }
+{
+    let items = items_of(alloc, text)?;
+    match action {
+        Action::Show => Ok(Request::Show(items)),
+        Action::Run => match first_form(items.as_slice()) {
+            Some(form) => Ok(Request::Run(form)),
+            None => Err(Status::from(NOT_BUILT)),
+        },
+    }
+}
