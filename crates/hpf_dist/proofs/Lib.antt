@@ -1,3 +1,4 @@
+pub mod Blocks
 pub mod Refusals
 pub mod Rows
 pub mod Spreads

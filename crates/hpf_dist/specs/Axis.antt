@@ -1,9 +1,7 @@
 -- One divided dimension.
-use Rattle.std.specs.Prelude.{ℕ, ◌+◌, ◌-◌, ◌*◌, ◌^◌, ◌<◌, ◌≤◌, ℤ, pos, ◌-ℤ◌, ◌≤ℤ◌, neg_ℤ, unsigned_abs}
+use Rattle.std.specs.Prelude.{ℕ, ◌+◌, ◌-◌, ◌^◌, ◌≤◌, ℤ, pos, ◌-ℤ◌, ◌≤ℤ◌, neg_ℤ, unsigned_abs}
 use Rattle.hpf_dist.specs.declared.format.Format.{Format}
-use Rattle.hpf_dist.specs.declared.format.Format.TheVariants.{Block}
-use Rattle.hpf_dist.specs.declared.refusal.AxisRefusal.{AxisRefusal}
-use Rattle.hpf_dist.specs.declared.refusal.AxisRefusal.TheVariants.{WidthZero, BlockTooSmall}
+use Rattle.hpf_dist.specs.Condition.{HasSmallNumbers, Suits}
 
 -- a dimension from low to high, divided over n processors
 pub record Divided : Type 0 where
@@ -31,25 +29,6 @@ pub record AreBounds (low high : ℤ) : Type 0 where
 pub record AreProcs (n : ℕ) : Type 0 where
   pub least : 1 ≤ n
   pub greatest : n ≤ 64
-
--- the numbers of a format are within the limit that this project sets
-abbrev pub HasSmallNumbers : Format → Type 0
-HasSmallNumbers (Block width) = width ≤ 2 ^ 31 - 1
-
--- blocks of this width, over n processors, deal out d positions
-pub record Reaches (d n width : ℕ) : Type 0 where
-  pub some : 1 ≤ width
-  pub enough : d ≤ width * n
-
--- The condition of a format over an extent d and n processors: a block has a position, and all blocks together reach
--- the extent (High Performance Fortran 2.0, Data Mapping, DISTRIBUTE).
-abbrev pub Suits : ℕ → ℕ → Format → Type 0
-Suits d n (Block width) = Reaches d n width
-
--- what is broken of that condition, and its refusal (this project names the refusals)
-pub data Breaks (d n : ℕ) : Format → AxisRefusal → Type 0 where
-  NoWidth : Breaks d n (Block 0) WidthZero
-  TooSmall : (width : ℕ) → 1 ≤ width → width * n < d → Breaks d n (Block width) BlockTooSmall
 
 -- A dimension that may be: bounds, a number of processors, and a format that suits them.
 pub record IsAxis (axis : Divided) : Type 0 where

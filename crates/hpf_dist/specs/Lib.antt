@@ -1,3 +1,5 @@
+pub mod Sums
 pub mod Owner
+pub mod Condition
 pub mod Axis
 pub mod Spread

@@ -1,13 +1,16 @@
 //! One divided dimension.
 
-ghost use Rattle.std.specs.Prelude.{◌≡◌, ◌==◌, ◌<◌, ◌≤◌, ◌≤ℤ◌, ◌↔◌, All, IsOk, IfOk, IsNone};
+ghost use Rattle.std.specs.Prelude.{◌≡◌, ◌==◌, ◌<◌, ◌≤◌, ◌≤ℤ◌, ◌↔◌, All, IsOk, IfOk};
 ghost use Rattle.std.specs.List.{list_any};
 ghost use Rattle.hpf_dist.specs.Owner.{own, ceiling};
 ghost use Rattle.hpf_dist.specs.Spread.{IsPosition, owner_at, spread};
-ghost use Rattle.hpf_dist.specs.Axis.{AreBounds, AreProcs, HasSmallNumbers, Suits, Breaks, extent, before};
+ghost use Rattle.hpf_dist.specs.Condition.{HasSmallNumbers, Suits, Breaks};
+ghost use Rattle.hpf_dist.specs.Axis.{AreBounds, AreProcs, extent, before};
 ghost use Rattle.hpf_dist.specs.declared.refusal.AxisRefusal.{AxisRefusal};
 
-use crate::{AxisRefusal, Format};
+use crate::condition::refusal_of;
+use crate::format::Format;
+use crate::refusal::AxisRefusal;
 use std::alloc::Global;
 use std::marker::Model;
 
@@ -34,8 +37,11 @@ impl Model for Axis {
 impl Axis {
     /// Divides the positions from `low` to `high` over so many processors.
     ///
-    /// `WidthZero` comes where a block has no position, and `BlockTooSmall` where it has some, but all blocks together
-    /// fewer than the dimension. Nothing else is refused; blocks take no memory.
+    /// `WidthZero` comes where a block of `Block` or `Cyclic` has no position, and `BlockTooSmall` where those of `Block`
+    /// have some, but all together fewer than the dimension. `LengthCount` comes where there isn't one length for each
+    /// processor, and `LengthSum` where there is, but they come to less than the dimension. `PlaceCount` comes where there
+    /// isn't one place for each position, and `PlaceValue` where there is, but one isn't below `procs`. Nothing else is
+    /// refused, and no memory is taken. A format that is refused is dropped.
     pub fn new(
         _alloc: Global,
         low: i64,
@@ -52,7 +58,7 @@ impl Axis {
         ensures refused { (refusal : AxisRefusal)
             → (result ≡ Err refusal) ↔ Breaks (extent low high) procs format refusal }
     {
-        match refusal_of(extent_of(low, high), procs, format) {
+        match refusal_of(extent_of(low, high), procs, &format) {
             Some(refusal) => Err(refusal),
             None => Ok(Axis {
                 low,
@@ -70,10 +76,23 @@ impl Axis {
         ensures owner { result ≡ own self.now.format self.now.procs (before self.now.low t) }
         ensures below { result < self.now.procs }
     {
-        let before = (t - self.low) as u64;
-        match self.format {
-            Format::Block(width) => (before / width) as u32,
+        let before = self.positions_before(t);
+        match &self.format {
+            Format::Block(width) => (before / *width) as u32,
+            Format::Cyclic(width) => (before / *width % u64::from(self.procs)) as u32,
+            Format::GenBlock(lengths) => lengths.block_of(before),
+            Format::Indirect(places) => places.as_slice()[before as usize],
         }
+    }
+
+    /// How many positions of the dimension lie before `t`.
+    fn positions_before(&self, t: i64) -> u64
+        requires low { self.now.low ≤ℤ t }
+        requires high { t ≤ℤ self.now.high }
+        ensures before { result ≡ before self.now.low t }
+        ensures within { result < extent self.now.low self.now.high }
+    {
+        (t - self.low) as u64
     }
 
     /// Whether the processor of coordinate `c` owns one of the positions `first`, `first + step`, `first + 2 * step` and
@@ -113,36 +132,6 @@ fn extent_of(low: i64, high: i64) -> u64
     ensures { result ≡ extent low high }
 {
     (high - low) as u64 + 1
-}
-
-/// Why the format doesn't suit so many positions and processors, if it doesn't.
-fn refusal_of(extent: u64, procs: u32, format: Format) -> Option<AxisRefusal>
-    requires procs { AreProcs procs }
-    requires widths { HasSmallNumbers format }
-    ensures suits { IsNone result ↔ Suits extent procs format }
-    ensures refused { (refusal : AxisRefusal)
-        → (result ≡ Some refusal) ↔ Breaks extent procs format refusal }
-{
-    match format {
-        Format::Block(width) => block_refusal(extent, procs, width),
-    }
-}
-
-/// The same for blocks of this width.
-fn block_refusal(extent: u64, procs: u32, width: u64) -> Option<AxisRefusal>
-    requires procs { AreProcs procs }
-    requires widths { HasSmallNumbers (Format.Block width) }
-    ensures suits { IsNone result ↔ Suits extent procs (Format.Block width) }
-    ensures refused { (refusal : AxisRefusal)
-        → (result ≡ Some refusal) ↔ Breaks extent procs (Format.Block width) refusal }
-{
-    if width == 0 {
-        Some(AxisRefusal::WidthZero)
-    } else if width * u64::from(procs) < extent {
-        Some(AxisRefusal::BlockTooSmall)
-    } else {
-        None
-    }
 }
 
 /// The width of the blocks, in positions, by which so many positions are divided evenly over so many processors:
