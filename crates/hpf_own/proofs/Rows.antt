@@ -1,7 +1,8 @@
 -- Rows worked out by hand, so that a wrong definition is noticed.
 use Rattle.std.proofs.Common.{◌≡◌, ℕ, true, false, List, [], ◌∷◌, map, Some, None, pos, negsuc, refl}
 use Rattle.hpf_num.specs.declared.run.Run.{Run}
-use Rattle.hpf_dist.specs.declared.format.Format.TheVariants.{Block}
+use Rattle.hpf_dist.specs.declared.format.Format.{Format}
+use Rattle.hpf_dist.specs.declared.format.Format.TheVariants.{Block, Cyclic, GenBlock, Indirect}
 use Rattle.hpf_own.specs.declared.image.Image.{Image}
 use Rattle.hpf_own.specs.declared.image.Image.TheVariants.{Along, Fixed, Spread}
 use Rattle.hpf_own.specs.declared.image.Cut.{Cut}
@@ -15,9 +16,13 @@ use Rattle.hpf_own.specs.Owners.{coordinates, owners, sender, sends, next_owner}
 abbrev run : ℕ → ℕ → Run
 run low high = record { low = pos low; high = pos high }
 
--- blocks of so many positions from 1 to high, over n processors, in this dimension of the arrangement
+-- positions from 1 to high, over n processors, in this dimension of the arrangement
+abbrev divided : ℕ → ℕ → ℕ → Format → Cut
+divided e high n format = Over e (record { low = pos 1; high = pos high; procs = n; format = format })
+
+-- in blocks of so many
 abbrev blocks : ℕ → ℕ → ℕ → ℕ → Cut
-blocks e high n width = Over e (record { low = pos 1; high = pos high; procs = n; format = Block width })
+blocks e high n width = divided e high n (Block width)
 
 abbrev dim : Image → Cut → BaseDim
 dim image cut = record { image = image; cut = cut }
@@ -63,6 +68,15 @@ owners_turned = refl
 -- A(I) with T(11-2*I), T(10) BLOCK on P(2): positions 9, 7, 5, 3, 1
 owners_by_twos : table (line 5 (dim (Along 0 (negsuc 1) (pos 11)) (blocks 0 10 2 5) ∷ []) (2 ∷ [])) ≡ (1 ∷ []) ∷ (1 ∷ []) ∷ (0 ∷ []) ∷ (0 ∷ []) ∷ (0 ∷ []) ∷ []
 owners_by_twos = refl
+
+-- A(I) with T(2*I-1), T(9) CYCLIC(3) on P(2)
+owners_in_turn : table (line 5 (dim (Along 0 (pos 2) (negsuc 0)) (divided 0 9 2 (Cyclic 3)) ∷ []) (2 ∷ [])) ≡ (0 ∷ []) ∷ (0 ∷ []) ∷ (1 ∷ []) ∷ (0 ∷ []) ∷ (0 ∷ []) ∷ []
+owners_in_turn = refl
+
+-- A(I) with T(I,*), T(3,2) (GEN_BLOCK,INDIRECT) on P(3,2)
+owners_by_lists : table (line 3 (dim (Along 0 (pos 1) (pos 0)) (divided 0 3 3 (GenBlock (1 ∷ 0 ∷ 2 ∷ []))) ∷ dim (Spread (pos 1) (pos 1) 2) (divided 1 2 2 (Indirect (1 ∷ 0 ∷ []))) ∷ []) (3 ∷ 2 ∷ []))
+    ≡ (0 ∷ 3 ∷ []) ∷ (2 ∷ 5 ∷ []) ∷ (2 ∷ 5 ∷ []) ∷ []
+owners_by_lists = refl
 
 -- A(I) with T(I,*), T(4,4) (BLOCK,BLOCK) on P(2,3): processors 4 and 5 own nothing
 spread_out : PlainMapping
