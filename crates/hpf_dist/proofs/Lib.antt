@@ -2,3 +2,4 @@ pub mod Blocks
 pub mod Refusals
 pub mod Rows
 pub mod Spreads
+pub mod Sharing

@@ -3,3 +3,4 @@ pub mod Owner
 pub mod Condition
 pub mod Axis
 pub mod Spread
+pub mod Shares

@@ -1,6 +1,6 @@
 //! One divided dimension.
 
-ghost use Rattle.std.specs.Prelude.{◌≡◌, ◌==◌, ◌<◌, ◌≤◌, ◌≤ℤ◌, ◌↔◌, All, IsOk, IfOk};
+ghost use Rattle.std.specs.Prelude.{◌≡◌, ◌==◌, ◌<◌, ◌≤◌, ◌≤ℤ◌, ◌↔◌, All, IsOk, IfOk, IsTrue};
 ghost use Rattle.std.specs.List.{list_any};
 ghost use Rattle.hpf_dist.specs.Owner.{own, ceiling};
 ghost use Rattle.hpf_dist.specs.Spread.{IsPosition, owner_at, spread};
@@ -83,6 +83,13 @@ impl Axis {
             Format::GenBlock(lengths) => lengths.block_of(before),
             Format::Indirect(places) => places.as_slice()[before as usize],
         }
+    }
+
+    /// Whether `t` is a position of the dimension.
+    pub(crate) fn has(&self, t: i64) -> bool
+        ensures { IsTrue result ↔ IsPosition self.now t }
+    {
+        self.low <= t && t <= self.high
     }
 
     /// How many positions of the dimension lie before `t`.

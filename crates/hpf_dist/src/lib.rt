@@ -10,6 +10,7 @@ mod format;
 mod lengths;
 mod places;
 mod refusal;
+mod runs_of;
 
 pub use axis::{Axis, even_width};
 pub use format::Format;

@@ -1,5 +1,7 @@
 //! Worked rows.
 
+mod shares;
+
 ghost use Rattle.std.specs.Prelude.{◌≡◌, All, IfOk, pos, ◌+ℤ◌};
 ghost use Rattle.hpf_dist.specs.Condition.{HasSmallNumbers};
 ghost use Rattle.hpf_dist.specs.Spread.{IsPosition, spread};
