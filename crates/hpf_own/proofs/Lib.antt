@@ -17,3 +17,8 @@ pub mod Leads
 pub mod Sends
 pub mod Numbers
 pub mod Rows
+pub mod Sides
+pub mod Boxes
+pub mod Narrowing
+pub mod Parts
+pub mod Standing

@@ -6,4 +6,6 @@ pub mod Image
 pub mod Mapping
 pub mod Owners
 pub mod OwnerSet
+pub mod Held
+pub mod Side
 pub mod TestRows

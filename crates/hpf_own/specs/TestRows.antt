@@ -1,6 +1,7 @@
 -- Mappings of the tests.
 use Rattle.std.specs.Prelude.{ℕ, ◌≡◌, List, [], ◌∷◌, pos}
 use Rattle.hpf_num.specs.declared.run.Run.{Run}
+use Rattle.hpf_dist.specs.declared.format.Format.{Format}
 use Rattle.hpf_dist.specs.declared.format.Format.TheVariants.{Block}
 use Rattle.hpf_own.specs.declared.image.Cut.{Cut}
 use Rattle.hpf_own.specs.declared.image.Cut.TheVariants.{Over}
@@ -27,3 +28,18 @@ two_each dim procs = Over dim (record { low = pos 1; high = pos 4; procs = procs
 pub record IsReplicated (m : PlainMapping) : Type 0 where
   pub bounds : m.bounds ≡ one_to_four
   pub procs : m.procs ≡ 2 ∷ 3 ∷ []
+
+abbrev pub square : List Run
+square = record { low = pos 1; high = pos 4 } ∷ record { low = pos 1; high = pos 4 } ∷ []
+
+pub record IsSquare (m : PlainMapping) : Type 0 where
+  pub bounds : m.bounds ≡ square
+  pub procs : m.procs ≡ 2 ∷ 2 ∷ []
+
+pub record IsTenOverThree (m : PlainMapping) : Type 0 where
+  pub bounds : m.bounds ≡ one_to_ten
+  pub procs : m.procs ≡ 3 ∷ []
+
+-- T(10), divided so over three processors
+abbrev pub ten_over_three : Format → Cut
+ten_over_three format = Over 0 (record { low = pos 1; high = pos 10; procs = 3; format = format })

@@ -7,17 +7,20 @@
 
 mod base_dims;
 mod bounds;
+mod held;
 mod image;
 pub mod laws;
 mod mapping;
 mod owner_set;
 mod perm;
 mod procs;
+mod side;
 mod sizes;
 mod widths;
 
 pub use base_dims::BaseDims;
 pub use bounds::Bounds;
+pub use held::Held;
 pub use image::{BaseDim, Cut, Image};
 pub use mapping::Mapping;
 pub use perm::Perm;

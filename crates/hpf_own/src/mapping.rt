@@ -1,5 +1,7 @@
 //! A mapping of an array onto processors.
 
+mod parts;
+
 ghost use Rattle.std.specs.Prelude.{◌≡◌, ◌+◌, ◌*◌, ◌^◌, ◌<◌, ◌≤◌, ℕ, length, filter, slice_index, All, IsTrue, IfOk, ◌↔◌, find};
 ghost use Rattle.hpf_own.specs.Space.{LiesIn, product};
 ghost use Rattle.hpf_own.specs.Lists.{IsBounds, IsSizes};

@@ -1,8 +1,10 @@
 //! Worked rows.
 
+mod parts;
+
 ghost use Rattle.std.specs.Prelude.{◌≡◌, ◌≤◌, [], ◌∷◌, IfOk};
 ghost use Rattle.hpf_dist.specs.Axis.{AreProcs};
-ghost use Rattle.hpf_own.specs.Mapping.{FollowsBelow, HasSmallCoefficients, HasSome, StaysWithin};
+ghost use Rattle.hpf_own.specs.Mapping.{FollowsBelow, HasSmallCoefficients, HasSome, StaysWithin, IsSmallWidth};
 ghost use Rattle.hpf_own.specs.Space.{LiesIn};
 ghost use Rattle.hpf_own.specs.TestRows.{ten_over_four, one_to_ten, IsTen, two_each, one_to_four, IsReplicated};
 
@@ -27,8 +29,20 @@ fn blocks(alloc: Global, image: Image) -> Result<BaseDim, AllocError>
     }
 }
 
-/// `A(10)` with this image in it.
+/// `A(10)` with this image in it, and no shadow.
 fn ten(alloc: Global, image: Image) -> Result<Mapping, AllocError>
+    requires followed { FollowsBelow 1 image }
+    requires coefficients { HasSmallCoefficients image }
+    requires some { HasSome image }
+    requires within { StaysWithin one_to_ten image ten_over_four }
+    ensures { IfOk result IsTen }
+{
+    ten_in_shadow(alloc, image, Width { low: 0, high: 0 })
+}
+
+/// The same with a shadow of this width.
+fn ten_in_shadow(alloc: Global, image: Image, width: Width) -> Result<Mapping, AllocError>
+    requires width { IsSmallWidth width }
     requires followed { FollowsBelow 1 image }
     requires coefficients { HasSmallCoefficients image }
     requires some { HasSome image }
@@ -39,7 +53,7 @@ fn ten(alloc: Global, image: Image) -> Result<Mapping, AllocError>
     dims.push(alloc, blocks(alloc, image)?)?;
     let bounds = Bounds::new(&[Run { low: 1, high: 10 }]);
     let procs = Sizes::new(&[4]);
-    let shadow = Widths::new(&[Width { low: 0, high: 0 }]);
+    let shadow = Widths::new(&[width]);
     match (bounds, procs, shadow) {
         (Some(bounds), Some(procs), Some(shadow)) => Ok(Mapping::new(bounds, dims, procs, shadow)),
         _ => unreachable!(),
