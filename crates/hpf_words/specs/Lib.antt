@@ -1,0 +1,5 @@
+pub mod Command
+pub mod Refusal
+pub mod Given
+pub mod Table
+pub mod Words
