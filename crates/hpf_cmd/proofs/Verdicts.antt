@@ -1,5 +1,5 @@
 -- The order of tests comes to one verdict.
-use Rattle.std.proofs.Common.{◌≡◌, ◌≢◌, ◌+◌, ℕ, List, ◌∷◌, take, Option, Some, Result, Ok, Err, IfOk, IfErr, inl, inr, refl, sym, ap, ◌∙◌, subst}
+use Rattle.std.proofs.Common.{◌≡◌, ◌≢◌, ◌+◌, ℕ, List, ◌∷◌, take, Option, Some, None, Result, Ok, Err, IfOk, IfErr, inl, inr, refl, sym, ap, ◌∙◌, subst}
 use Rattle.hpf_io.specs.Files.{Files, HasFront}
 use Rattle.hpf_lex.specs.declared.refusal.MapError.{MapError}
 use Rattle.hpf_lex.specs.declared.refusal.MapError.TheVariants.{Refused, Memory}
@@ -16,11 +16,13 @@ use Rattle.hpf_cmd.specs.declared.status.Status.TheVariants as status
 use Rattle.hpf_cmd.specs.declared.words.Action.{Action}
 use Rattle.hpf_cmd.specs.declared.words.Action.TheVariants as action
 use Rattle.hpf_cmd.specs.FirstForm.{Extents, IsFirstForm}
-use Rattle.hpf_cmd.specs.Order.{Verdict, Denied, Granted, Judges, Faulty, ToShow, Unbuilt, ToRun, Order, NoAction, OfText, IsLoaded, not_built}
+use Rattle.hpf_cmd.specs.Order.{Verdict, Denied, Granted, Judges, Faulty, ToShow, Unbuilt, ToRun, Order, NoAction, NotBuilt, OfText, IsLoaded, not_built}
 use Rattle.hpf_cmd.specs.Request.{Show, Run, request_tree}
 use Rattle.hpf_cmd.specs.declared.request.Request.{Request}
 use Rattle.hpf_cmd.specs.Statuses.{refusal_status, text_status, IsOfText, IsOfDeed}
-use Rattle.hpf_cmd.specs.Words.{Asks, spelling}
+use Rattle.hpf_words.specs.declared.asked.Asked.{Asked}
+use Rattle.hpf_words.specs.Words.{AsksFor}
+use Rattle.hpf_cmd.specs.Words.{Asks, built}
 use Rattle.hpf_cmd.proofs.Forms.{one_form}
 
 -- a text that was not read is refused for its fault
@@ -83,20 +85,23 @@ one_judgement once asked text v w (ToRun run items says form is e) (ToRun run' o
     let same = says_once once text items others says says' in
     e ∙ (ap (λ (z : Extents). Granted (Run z)) (one_form others form form' (subst (λ (z : List ItemTree). IsFirstForm z form) same is) is') ∙ sym h)
 
-one_action : (a b : Action) → spelling a ≡ spelling b → a ≡ b
-one_action action.Show action.Show e = refl
-one_action action.Show action.Run e = absurd cc
-one_action action.Run action.Show e = absurd cc
-one_action action.Run action.Run e = refl
+-- words ask for one thing, built or not
+abbrev pub OneLine : Type 0
+OneLine = (words : List (List ℕ)) (a b : Asked) (m n : List ℕ) → AsksFor words a m → AsksFor words b n → (a ≡ b) × (m ≡ n)
 
--- the words ask for one thing
-pub one_asked : (words : List (List ℕ)) (a b : Action) (m n : List ℕ) → Asks words a m → Asks words b n → (a ≡ b) × (m ≡ n)
-one_asked words a b m n f g =
-    let e = f.words_are in
-    let h = g.words_are in
-    let said : spelling a ≡ spelling b = cc in
-    let named : m ≡ n = cc in
-    (one_action a b said, named)
+-- the words ask for one action that is built
+pub one_asked : OneLine → (words : List (List ℕ)) (a b : Action) (m n : List ℕ) → Asks words a m → Asks words b n → (a ≡ b) × (m ≡ n)
+one_asked one words a b m n f g =
+    let same = one words f.asked g.asked m n f.asks g.asks in
+    let both : Some a ≡ Some b = sym f.is_built ∙ (ap built same.0 ∙ g.is_built) in
+    let said : a ≡ b = cc in
+    (said, same.1)
+
+-- what isn't built isn't asked for
+never_built : OneLine → (words : List (List ℕ)) (asked : Asked) (a : Action) (m n : List ℕ) → AsksFor words asked m → built asked ≡ None → Asks words a n → ⊥
+never_built one words asked a m n f none g =
+    let both : None ≡ Some a = sym none ∙ (ap built (one words asked g.asked m n f g.asks).0 ∙ g.is_built) in
+    absurd cc
 
 -- one front stands under a name
 one_front : (all : Files) (m n a b : List ℕ) → m ≡ n → HasFront all m (max_text + 1) a → HasFront all n (max_text + 1) b → a ≡ b
@@ -107,12 +112,17 @@ one_front all m n a b e f g =
     f.2 ∙ (ap (take (max_text + 1)) same ∙ sym g.2)
 
 -- where the files are told, the words and the text come to one verdict
-pub one_verdict : ReadOnce → (words : List (List ℕ)) (told : Option Files) (all : Files) (v w : Verdict) → told ≡ Some all → Order words told v → Order words told w → v ≡ w
-one_verdict once words told all v w is (NoAction none e) (NoAction none' h) = e ∙ sym h
-one_verdict once words told all v w is (NoAction none e) (OfText asked name text asks loaded judged) = absurd (none asked name asks)
-one_verdict once words told all v w is (OfText asked name text asks loaded judged) (NoAction none h) = absurd (none asked name asks)
-one_verdict once words told all v w is (OfText a m text asks loaded judged) (OfText b n other asks' loaded' judged') =
-    let same = one_asked words a b m n asks asks' in
+pub one_verdict : OneLine → ReadOnce → (words : List (List ℕ)) (told : Option Files) (all : Files) (v w : Verdict) → told ≡ Some all → Order words told v → Order words told w → v ≡ w
+one_verdict one once words told all v w is (NoAction none e) (NoAction none' h) = e ∙ sym h
+one_verdict one once words told all v w is (NoAction none e) (NotBuilt asked name asks unbuilt h) = absurd (none asked name asks)
+one_verdict one once words told all v w is (NoAction none e) (OfText asked name text asks loaded judged) = absurd (none asks.asked name asks.asks)
+one_verdict one once words told all v w is (NotBuilt asked name asks unbuilt e) (NoAction none h) = absurd (none asked name asks)
+one_verdict one once words told all v w is (NotBuilt asked name asks unbuilt e) (NotBuilt other name' asks' unbuilt' h) = e ∙ sym h
+one_verdict one once words told all v w is (NotBuilt asked name asks unbuilt e) (OfText a n text asks' loaded judged) = absurd (never_built one words asked a name n asks unbuilt asks')
+one_verdict one once words told all v w is (OfText asked name text asks loaded judged) (NoAction none h) = absurd (none asks.asked name asks.asks)
+one_verdict one once words told all v w is (OfText a n text asks loaded judged) (NotBuilt asked name asks' unbuilt h) = absurd (never_built one words asked a name n asks' unbuilt asks)
+one_verdict one once words told all v w is (OfText a m text asks loaded judged) (OfText b n other asks' loaded' judged') =
+    let same = one_asked one words a b m n asks asks' in
     let texts = one_front all m n text other same.1 (loaded all is) (loaded' all is) in
     one_judgement once b other v w (subst (λ (z : List ℕ). Judges b z v) texts (subst (λ (z : Action). Judges z text v) same.0 judged)) judged'
 

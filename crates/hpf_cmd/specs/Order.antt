@@ -1,6 +1,6 @@
 -- The order of tests: the words, then the text that was loaded, from its first fault to what it means. A row presumes that
 -- those above it were passed.
-use Rattle.std.specs.Prelude.{◌≡◌, ◌+◌, ℕ, List, Option, Some}
+use Rattle.std.specs.Prelude.{◌≡◌, ◌+◌, ℕ, List, Option, Some, None}
 use Rattle.hpf_io.specs.Files.{Files, HasFront}
 use Rattle.hpf_lex.specs.Statement.{max_text}
 use Rattle.hpf_lex.specs.declared.refusal.MapRefusal.{MapRefusal}
@@ -13,7 +13,9 @@ use Rattle.hpf_cmd.specs.declared.words.Action.TheVariants as action
 use Rattle.hpf_cmd.specs.FirstForm.{Extents, IsFirstForm}
 use Rattle.hpf_cmd.specs.Statuses.{refusal_status}
 use Rattle.hpf_cmd.specs.Request.{RequestTree, Show, Run}
-use Rattle.hpf_cmd.specs.Words.{Asks}
+use Rattle.hpf_words.specs.declared.asked.Asked.{Asked}
+use Rattle.hpf_words.specs.Words.{AsksFor}
+use Rattle.hpf_cmd.specs.Words.{Asks, built}
 
 -- what is asked for, or the status by which it is refused
 pub data Verdict : Type 0 where
@@ -39,7 +41,8 @@ pub data Judges (asked : Action) (text : List ℕ) (verdict : Verdict) : Type 0 
 
 -- what the words and the text that was loaded come to
 pub data Order (words : List (List ℕ)) (told : Option Files) (verdict : Verdict) : Type 0 where
-  NoAction : ((asked : Action) (name : List ℕ) → ¬ Asks words asked name) → verdict ≡ Denied (status.Usage 1) → Order words told verdict
+  NoAction : ((asked : Asked) (name : List ℕ) → ¬ AsksFor words asked name) → verdict ≡ Denied (status.Usage 1) → Order words told verdict
+  NotBuilt : (asked : Asked) (name : List ℕ) → AsksFor words asked name → built asked ≡ None → verdict ≡ Denied (status.Usage 9) → Order words told verdict
   OfText : (asked : Action) (name text : List ℕ) → Asks words asked name → IsLoaded told name text → Judges asked text verdict → Order words told verdict
 
 -- A load of the map failed: its name is kept, its count rose, and it could fail.

@@ -5,6 +5,8 @@ use Rattle.hpf_io.specs.declared.text.LoadError.TheVariants as load
 use Rattle.hpf_lex.specs.declared.refusal.MapError.{MapError}
 use Rattle.hpf_lex.specs.declared.refusal.MapError.TheVariants as text
 use Rattle.hpf_lex.specs.declared.refusal.MapRefusal.{MapRefusal}
+use Rattle.hpf_words.specs.declared.refusal.WordsError.{WordsError}
+use Rattle.hpf_words.specs.declared.refusal.WordsError.TheVariants as words
 use Rattle.hpf_frame.specs.declared.error.InputError.TheVariants.{Refused, ReadFault}
 use Rattle.hpf_cmd.specs.declared.stop.Stop.{Stop}
 use Rattle.hpf_cmd.specs.declared.stop.Stop.TheVariants.{Input, Output}
@@ -14,6 +16,11 @@ use Rattle.hpf_cmd.specs.declared.status.Status.TheVariants as status
 -- a refusal of a mapping text
 abbrev pub refusal_status : MapRefusal → Status
 refusal_status r = status.MapRefused r.code r.line r.column
+
+-- why words were not read
+abbrev pub words_status : WordsError → Status
+words_status words.Refused = status.Usage 1
+words_status (words.Memory e) = status.OutOfMemory
 
 -- why a text was not loaded
 abbrev pub load_status : LoadError → Status
@@ -38,6 +45,12 @@ IsDenial (status.MapRefused code line column) = Unit {0}
 IsDenial status.LoadFault = Unit {0}
 IsDenial status.OutOfMemory = Unit {0}
 IsDenial _ = ⊥
+
+-- The words alone denied it.
+abbrev pub IsOfWords : Status → Type 0
+IsOfWords (status.Usage code) = Unit {0}
+IsOfWords status.OutOfMemory = Unit {0}
+IsOfWords _ = ⊥
 
 -- The text alone denied it.
 abbrev pub IsOfText : Status → Type 0

@@ -1,16 +1,19 @@
--- The words of the command line.
-use Rattle.std.specs.Prelude.{◌≡◌, ◌≢◌, ℕ, List, [], ◌∷◌, codes, slice_get, Some}
+-- The words of the command line, as far as what they ask for is built.
+use Rattle.std.specs.Prelude.{◌≡◌, ℕ, List, Option, Some, None}
+use Rattle.hpf_words.specs.declared.asked.Asked.{Asked}
+use Rattle.hpf_words.specs.declared.asked.Asked.TheVariants as asked
+use Rattle.hpf_words.specs.Words.{AsksFor}
 use Rattle.hpf_cmd.specs.declared.words.Action.{Action}
 use Rattle.hpf_cmd.specs.declared.words.Action.TheVariants as action
 
--- the word that asks for an action
-abbrev pub spelling : Action → List ℕ
-spelling action.Show = codes "show"
-spelling action.Run = codes "run"
+-- the action that is asked for, where it is built
+abbrev pub built : Asked → Option Action
+built asked.Show = Some action.Show
+built (asked.Run workers) = Some action.Run
+built _ = None
 
--- The words ask for this with the map of this name: the program's name, the action, and one word that does not begin
--- with `-`.
+-- The words ask for this action, which is built, of the map of this name.
 pub record Asks (words : List (List ℕ)) (action : Action) (map : List ℕ) : Type 0 where
-  pub program : List ℕ
-  pub words_are : words ≡ program ∷ spelling action ∷ map ∷ []
-  pub no_option : slice_get map 0 ≢ Some 45
+  pub asked : Asked
+  pub asks : AsksFor words asked map
+  pub is_built : built asked ≡ Some action

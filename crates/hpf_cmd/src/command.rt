@@ -1,6 +1,6 @@
 //! The call that the program makes.
 
-ghost use Rattle.std.specs.Prelude.{◌≡◌, ◌≢◌, ℕ, ◌⊎◌, List, map, string_bytes, Some};
+ghost use Rattle.std.specs.Prelude.{◌≡◌, ◌≢◌, ℕ, ◌⊎◌, List, map, string_bytes, Some, None};
 ghost use Rattle.hpf_io.specs.Counts.{Rose};
 ghost use Rattle.hpf_io.specs.Files.{Files};
 ghost use Rattle.hpf_cmd.specs.declared.words.Action.{Action};
@@ -9,7 +9,9 @@ ghost use Rattle.hpf_cmd.specs.Does.{Follows, Untouched};
 ghost use Rattle.hpf_cmd.specs.Outside.{source, sink, Rises, Stays};
 ghost use Rattle.hpf_cmd.specs.Order.{Verdict, Granted, Order, LoadFails};
 ghost use Rattle.hpf_cmd.specs.Request.{RequestTree, deed_of, IsDue, IsUnreadable};
-ghost use Rattle.hpf_cmd.specs.Words.{Asks};
+ghost use Rattle.hpf_words.specs.declared.asked.Asked.{Asked};
+ghost use Rattle.hpf_words.specs.Words.{AsksFor};
+ghost use Rattle.hpf_cmd.specs.Words.{Asks, built};
 
 use crate::laws::one_verdict;
 use crate::perform::perform;
@@ -33,7 +35,11 @@ pub fn command_one<L: Loader, S: Source, K: Sink, N: Sink>(
     ensures order { result ≢ Status.LoadFault → result ≢ Status.OutOfMemory → (verdict : Verdict) × Order (map string_bytes words.now) (L.files texts.new) verdict
         × Follows (source S.left S.faults) (sink K.given K.flushed K.faults K.takes)
         (sink N.given N.flushed N.faults N.takes) frames.old frames.new out.old out.new notes.old notes.new verdict result }
-    ensures usage { ((action : Action) (name : List ℕ) → ¬ Asks (map string_bytes words.now) action name) → result ≡ Status.Usage 1 }
+    // Words that ask for nothing are refused, and so are words that ask for what isn't built, want of memory apart.
+    ensures usage { ((asked : Asked) (name : List ℕ) → ¬ AsksFor (map string_bytes words.now) asked name)
+        → (result ≡ Status.Usage 1) ⊎ (result ≡ Status.OutOfMemory) }
+    ensures not_built { (asked : Asked) (name : List ℕ) → AsksFor (map string_bytes words.now) asked name → built asked ≡ None
+        → (result ≡ Status.Usage 9) ⊎ (result ≡ Status.OutOfMemory) }
 
     // Where nothing of it was begun, nothing but the loader was touched, and for faulty words not even that.
     ensures untouched { (result ≡ Status.LoadFault) ⊎ (result ≡ Status.OutOfMemory) → Untouched frames.old frames.new out.old out.new notes.old notes.new }

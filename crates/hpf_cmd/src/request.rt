@@ -1,6 +1,6 @@
 //! What is asked for, together with what its map means.
 
-ghost use Rattle.std.specs.Prelude.{◌≡◌, ◌≢◌, ℕ, List, map, string_bytes, Some, Err, IfOk, IfErr};
+ghost use Rattle.std.specs.Prelude.{◌≡◌, ◌≢◌, ◌⊎◌, ℕ, List, map, string_bytes, Some, None, Err, IfOk, IfErr};
 ghost use Rattle.hpf_io.specs.Files.{Files};
 ghost use Rattle.hpf_cmd.specs.declared.status.Status.{Status};
 ghost use Rattle.hpf_cmd.specs.declared.words.Action.{Action};
@@ -8,7 +8,9 @@ ghost use Rattle.hpf_cmd.specs.Outside.{Rises, Stays};
 ghost use Rattle.hpf_cmd.specs.Order.{Order, Granted, Denied, LoadFails, IsLoaded, Judges};
 ghost use Rattle.hpf_cmd.specs.Request.{request_tree, IsMet};
 ghost use Rattle.hpf_cmd.specs.Statuses.{IsDenial, IsOfText};
-ghost use Rattle.hpf_cmd.specs.Words.{Asks};
+ghost use Rattle.hpf_words.specs.declared.asked.Asked.{Asked};
+ghost use Rattle.hpf_words.specs.Words.{AsksFor};
+ghost use Rattle.hpf_cmd.specs.Words.{built};
 
 use crate::first_form::{FirstForm, first_form};
 use crate::map::items_of;
@@ -45,8 +47,10 @@ pub(crate) fn request_of<L: Loader>(
     ensures met { IfOk result IsMet }
     ensures denied { (status : Status) → result ≡ Err status → status ≢ Status.LoadFault → status ≢ Status.OutOfMemory
         → Order (map string_bytes words.now) (L.files texts.new) (Denied status) }
-    ensures usage { ((action : Action) (name : List ℕ) → ¬ Asks (map string_bytes words.now) action name) → result ≡ Err (Status.Usage 1) }
-
+    ensures usage { ((asked : Asked) (name : List ℕ) → ¬ AsksFor (map string_bytes words.now) asked name)
+        → (result ≡ Err (Status.Usage 1)) ⊎ (result ≡ Err Status.OutOfMemory) }
+    ensures not_built { (asked : Asked) (name : List ℕ) → AsksFor (map string_bytes words.now) asked name → built asked ≡ None
+        → (result ≡ Err (Status.Usage 9)) ⊎ (result ≡ Err Status.OutOfMemory) }
     ensures kinds { IfErr result IsDenial }
 
     // The loader.
@@ -57,9 +61,7 @@ pub(crate) fn request_of<L: Loader>(
     ensures kept { (all : Files) → L.files texts.new ≡ Some all → L.files texts.old ≡ Some all }
     ensures unasked { (code : ℕ) → result ≡ Err (Status.Usage code) → texts.new ≡ texts.old }
 {
-    let Some(command) = command_of(words) else {
-        return Err(Status::Usage { code: 1 });
-    };
+    let command = command_of(alloc, words)?;
     let text = texts.load(alloc, command.map, MAX_TEXT)?;
     request_in(alloc, command.action, text.as_slice())
 }

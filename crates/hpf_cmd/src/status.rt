@@ -10,6 +10,7 @@ use crate::line::{LONGEST, Line, plain, push_number};
 use crate::names::{input_name, map_name};
 use hpf_io::{Failed, LoadError, Sink, write_all};
 use hpf_lex::{MapError, MapRefusal};
+use hpf_words::WordsError;
 
 /// What the command line looks like.
 const USAGE: &str =
@@ -20,7 +21,7 @@ const USAGE: &str =
 pub enum Status {
     /// All was done.
     Ok,
-    /// The words ask for nothing that the program does.
+    /// The words ask for nothing that the program does (1), or for what isn't built (9).
     Usage { code: u8 },
     /// The mapping text is refused at this place, whose line and column count from 1.
     MapRefused { code: u8, line: u32, column: u32 },
@@ -82,6 +83,20 @@ impl From<MapError> for Status {
         match error {
             MapError::Refused(refusal) => Status::from(refusal),
             MapError::Memory(_) => Status::OutOfMemory,
+        }
+    }
+}
+
+impl From<WordsError> for Status {
+    ghost use Rattle.std.specs.Prelude.{◌≡◌};
+    ghost use Rattle.hpf_cmd.specs.Statuses.{words_status};
+
+    ghost from_gives = { λ e status. status ≡ words_status e };
+
+    fn from(error: WordsError) -> Status {
+        match error {
+            WordsError::Refused => Status::Usage { code: 1 },
+            WordsError::Memory(_) => Status::OutOfMemory,
         }
     }
 }

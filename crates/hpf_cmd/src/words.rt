@@ -1,8 +1,17 @@
-//! The words of the command line.
+//! The words of the command line, as far as what they ask for is built.
 
-ghost use Rattle.std.specs.Prelude.{◌≡◌, ◌≢◌, List, ℕ, map, string_bytes, IfSome, IfNone};
-ghost use Rattle.hpf_cmd.specs.Words.{Asks, spelling};
-ghost use Rattle.hpf_cmd.specs.declared.words.Action.{Action};
+ghost use Rattle.std.specs.Prelude.{◌≡◌, ◌≢◌, ◌⊎◌, List, ℕ, map, string_bytes, Option, None, Err, IfOk, IfErr};
+ghost use Rattle.hpf_io.specs.Files.{Files};
+ghost use Rattle.hpf_words.specs.declared.asked.Asked.{Asked};
+ghost use Rattle.hpf_words.specs.Words.{AsksFor};
+ghost use Rattle.hpf_cmd.specs.declared.status.Status.{Status};
+ghost use Rattle.hpf_cmd.specs.Order.{Order, Denied};
+ghost use Rattle.hpf_cmd.specs.Statuses.{IsOfWords};
+ghost use Rattle.hpf_cmd.specs.Words.{Asks, built};
+
+use crate::status::Status;
+use hpf_words::{Asked, one_line, read_words};
+use std::alloc::Global;
 
 /// What is done with a map.
 #[derive(Clone, Copy, Debug, PartialEq, Eq)]
@@ -20,32 +29,38 @@ pub(crate) struct Command<'a> {
     pub(crate) map: &'a str,
 }
 
-impl Action {
-    /// The action that a word asks for.
-    fn named(word: &str) -> Option<Action>
-        ensures found { IfSome result (λ action. word.now ≡ spelling action) }
-        ensures none { IfNone result ((action : Action) → word.now ≢ spelling action) }
-    {
-        match word {
-            "show" => Some(Action::Show),
-            "run" => Some(Action::Run),
-            _ => None,
-        }
+/// What the words ask for. They are refused where they ask for nothing, and where they ask for what isn't built.
+pub(crate) fn command_of(alloc: Global, words: &[String]) -> Result<Command<'_>, Status>
+    ensures found { IfOk result (λ command. Asks (map string_bytes words.entry.now) command.action command.map.now) }
+    ensures denied { (status : Status) → result ≡ Err status → status ≢ Status.OutOfMemory
+        → (told : Option Files) → Order (map string_bytes words.entry.now) told (Denied status) }
+    ensures usage { ((asked : Asked) (name : List ℕ) → ¬ AsksFor (map string_bytes words.entry.now) asked name)
+        → (result ≡ Err (Status.Usage 1)) ⊎ (result ≡ Err Status.OutOfMemory) }
+    ensures not_built { (asked : Asked) (name : List ℕ) → AsksFor (map string_bytes words.entry.now) asked name → built asked ≡ None
+        → (result ≡ Err (Status.Usage 9)) ⊎ (result ≡ Err Status.OutOfMemory) }
+    ensures kinds { IfErr result IsOfWords }
+{
+    // Words ask for one thing.
+    one_line();
+    match read_words(alloc, words) {
+        Ok(line) => match built(&line.asked) {
+            Some(action) => Ok(Command {
+                action,
+                map: line.map,
+            }),
+            None => Err(Status::Usage { code: 9 }),
+        },
+        Err(error) => Err(Status::from(error)),
     }
 }
 
-/// What the words ask for: they are the program's name, an action, and one further word that doesn't begin with `-`.
-/// `None` for all other words.
-pub(crate) fn command_of(words: &[String]) -> Option<Command<'_>>
-    ensures found { IfSome result (λ command. Asks (map string_bytes words.now) command.action command.map.now) }
-    ensures none { IfNone result ((action : Action) (name : List ℕ) → ¬ Asks (map string_bytes words.now) action name) }
+/// The action that is asked for, where it is built.
+fn built(asked: &Asked<'_>) -> Option<Action>
+    ensures { result ≡ built asked.now }
 {
-    let [_, action, map] = words else {
-        return None;
-    };
-    let action = Action::named(action)?;
-    if map.starts_with('-') {
-        return None;
+    match asked {
+        Asked::Show => Some(Action::Show),
+        Asked::Run { .. } => Some(Action::Run),
+        _ => None,
     }
-    Some(Command { action, map })
 }

@@ -7,7 +7,7 @@ use Rattle.hpf_io.specs.Loaders.{LoaderState, LoadFails, file_in, files_told_by}
 use Rattle.hpf_io.specs.Sinks.{SinkState, HasRoom}
 use Rattle.hpf_cmd.specs.Outside.{IsSure}
 use Rattle.hpf_cmd.specs.declared.words.Action.{Action}
-use Rattle.hpf_cmd.specs.Order.{Verdict, Granted, Denied, Order, NoAction, OfText}
+use Rattle.hpf_cmd.specs.Order.{Verdict, Granted, Denied, Order, NoAction, NotBuilt, OfText}
 use Rattle.hpf_cmd.specs.Request.{RequestTree}
 use Rattle.hpf_cmd.specs.Words.{Asks}
 
@@ -41,6 +41,7 @@ OneAsking = (words : List (List ℕ)) (a b : Action) (m n : List ℕ) → Asks w
 -- where a request is granted over a loader in memory, no load of the map fails
 pub map_is_held : OneAsking → (words : List (List ℕ)) (l : LoaderState) (request : RequestTree) → l.calls.fails ≡ [] → Order words (Some (file_in l.files)) (Granted request) → (asked : Action) (name : List ℕ) → Asks words asked name → ¬ LoadFails l name
 map_is_held one words l request none (NoAction unasked is) asked name asks = absurd cc
+map_is_held one words l request none (NotBuilt other map asks' unbuilt is) asked name asks = absurd cc
 map_is_held one words l request none (OfText other held text asks' loaded judged) asked name asks =
     let front = loaded (file_in l.files) refl in
     never_misses l name front.0 none (ap (file_in l.files) (one words asked other name held asks asks').1 ∙ front.1)

@@ -15,6 +15,8 @@ pub enum Kind {
     Sure,
     /// A status, whose line is printed.
     Ending,
+    /// A command line, which is read and no more.
+    Asking,
 }
 
 impl Kind {
@@ -25,12 +27,13 @@ impl Kind {
             "row" => Some(Kind::Row),
             "sure" => Some(Kind::Sure),
             "ending" => Some(Kind::Ending),
+            "asks" => Some(Kind::Asking),
             _ => None,
         }
     }
 }
 
-/// A text with its name, a row with its title or a status, and its lines.
+/// A text with its name, a row with its title, a status or the words of a command line, and its lines.
 #[derive(Drop)]
 pub struct Block<'a> {
     pub kind: Kind,

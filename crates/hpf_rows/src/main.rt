@@ -14,10 +14,12 @@
 //! notes                      the same of the notes
 //! ```
 //!
-//! A row over ends that can't fail begins with `sure TITLE`, and tells two runs.
+//! A row over ends that can't fail begins with `sure TITLE`, and tells two runs. A command line that is only read begins
+//! with `asks WORD ..`, and is told by what it asks for, or `refused`.
 #![tactic(auto)]
 
 mod answer;
+mod asking;
 mod block;
 mod bytes;
 mod ending;
@@ -33,6 +35,7 @@ mod watched;
 mod words;
 
 use anyhow::{Context, Result};
+use asking::push_asking;
 use block::{Block, Kind, blocks};
 use ending::push_ending;
 use hpf_vectors::commands::{COMMANDS, Part};
@@ -80,6 +83,7 @@ fn push_block<'a>(
         Kind::Row => push_row(alloc, block, texts, answers),
         Kind::Sure => push_sure(alloc, block, texts, answers),
         Kind::Ending => push_ending(alloc, block, answers),
+        Kind::Asking => push_asking(alloc, block, answers),
     }
 }
 

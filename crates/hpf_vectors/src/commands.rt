@@ -7,6 +7,7 @@
 //! row TITLE         what a call is given; its lines follow, and only the words have to be among them
 //! sure TITLE        the same over ends that can't fail, once with the rooms of the row and once into an out without an end
 //! ending STATUS     a status, with its numbers
+//! asks WORD ..      the words of a command line, which are read and no more; quotes as in a row
 //! ```
 //!
 //! The lines of a row:
@@ -34,6 +35,7 @@
 //! ```
 
 mod endings;
+mod lines;
 mod maps;
 mod runs;
 mod shows;
@@ -52,6 +54,10 @@ pub const COMMANDS: &[Part] = &[
     Part {
         name: "texts",
         rows: texts::ROWS,
+    },
+    Part {
+        name: "lines",
+        rows: lines::ROWS,
     },
     Part {
         name: "words",

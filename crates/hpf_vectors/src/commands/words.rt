@@ -53,25 +53,88 @@ words hpfturn SHOW M
 file M @ M13
 input @ F3
 
-row an action that isn't there yet
-words hpfturn check M
-file M @ M13
-input @ F3
-
-row a map that begins with a hyphen
+row a map named by a hyphen
 words hpfturn run -
 file - @ M13
 input @ F3
 
-row two hyphens
+row two hyphens, and no map
 words hpfturn show --
 file -- @ M13
+input @ F3
+
+row a map named by two hyphens
+words hpfturn show -- --
+file -- | integer a(3)
+
+row the most workers
+words hpfturn run --workers=64 M
+file M @ M13
+input @ F3
+
+row a worker too many
+words hpfturn run M --workers 65
+file M @ M13
+input @ F3
+
+row an option of other actions
+words hpfturn run M --seed 1
+file M @ M13
+input @ F3
+
+row a name behind a map that is checked
+words hpfturn check M A
+file M @ M13
 input @ F3
 
 row action and map the wrong way round
 words hpfturn M run
 file M @ M13
 input @ F3
+
+# Actions that aren't built
+
+row a plan
+words hpfturn plan M
+file M @ M13
+input @ F3
+
+row a check
+words hpfturn check M
+file M @ M13
+input @ F3
+
+row owners
+words hpfturn owners M A
+file M @ M13
+input @ F3
+
+row a part
+words hpfturn local M A --proc 0
+file M @ M13
+input @ F3
+
+row parts of a stage
+words hpfturn parts M --stage 0 --workers 2
+file M @ M13
+input @ F3
+
+row generated frames
+words hpfturn make M --frames 1 --seed 2
+file M @ M13
+input @ F3
+
+row a run on generated frames
+words hpfturn trial M --frames 1
+file M @ M13
+input @ F3
+
+row calls that what isn't built doesn't make
+words hpfturn trial M --frames 1
+loader fails 0
+input fails 0
+out fails 0
+notes fails 0
 
 # Maps that aren't loaded
 

@@ -1,5 +1,5 @@
 use Rattle.hpf_cmd.specs.Order.{Granted, Denied}
-use Rattle.std.proofs.Common.{refl}
+use Rattle.std.proofs.Common.{refl, inl, inr}
 use Rattle.hpf_cmd.proofs.Completed.{done_causes, denied_causes, completes, surely_completes, refuses}
 use Rattle.hpf_cmd.proofs.Verdicts.{no_load_fault}
 use Rattle.hpf_cmd.proofs.command.command_one.Goals as goal
@@ -43,3 +43,9 @@ pub returns-in-Err-clause-sure : goal.returns-in-Err-clause-sure
 returns-in-Err-clause-sure g c = λ request text lines all told granted due loads none.
     surely_completes _ _ _ _ _ _ _ _ _ _ _ all request text lines _ c.one_verdict.ensures (returns-in-Err-clause-order g c) told granted
     (λ e. let f = c.in-Err.ensures.load_fault (rw e refl) in loads f.0.asked f.0.name f.0.asks f.0.could) due none
+
+pub returns-in-Err-clause-not_built : goal.returns-in-Err-clause-not_built
+returns-in-Err-clause-not_built g c = λ asked name asks unbuilt. elim (c.in-Err.ensures.not_built asked name asks unbuilt) [
+  | inl is ↦ inl (cc)
+  | inr memory ↦ inr (cc)
+]

@@ -3,7 +3,7 @@ use Rattle.hpf_cmd.proofs.laws.one_verdict.Goals as goal
 
 pub returns : goal.returns
 returns c = λ words told all v w is first second.
-    one_verdict (record {
+    one_verdict c.one_line.ensures (record {
       tokens = c.one_reading.ensures.one_list;
       no_tokens = c.one_reading.ensures.never_both;
       fault = c.one_reading.ensures.one_fault;
