@@ -1,10 +1,10 @@
 -- Rows of command lines, by the definitions alone.
-use Rattle.std.proofs.Common.{◌≡◌, ℕ, List, [], ◌∷◌, codes, Some, None, refl}
+use Rattle.std.proofs.Common.{List, [], ◌∷◌, codes, Some, None, refl}
 use Rattle.clap.proofs.OnLiterals.{clap_on_literals}
 use Rattle.clap.specs.Words.{Text}
-use Rattle.hpf_words.specs.Command.{AreTaken, found_in, hpfturn}
+use Rattle.hpf_words.specs.Command.{AreTaken, found_in}
 use Rattle.hpf_words.specs.declared.asked.Asked.TheVariants.{Show, Local, Run, Trial}
-use Rattle.hpf_words.specs.Words.{AsksFor, IsFound}
+use Rattle.hpf_words.specs.Words.{AsksFor}
 
 -- the words of a line behind the program's name
 line : List Text → List Text
