@@ -152,3 +152,78 @@ pub const DECLARATIONS: &str = "\
     !HPF$ DISTRIBUTE W(BLOCK)\nINTEGER %, X, Y\nINTEGER Z, W~refused 23 at 1:18|\
     INTEGER %, X, Y\nINTEGER, PARAMETER :: Z = (/ 1 /)~refused 26 at 2:23|\
     ";
+
+/// Rows of alignments, distributions, cycles and the lines of a pipeline, where the mappings of arrays are needed.
+pub const DIRECTIVES: &str = "\
+    INTEGER A(8), B(4)\n!HPF$ TEMPLATE T(8, 0:9)\n!HPF$ ALIGN A(:) WITH T(:,3)~accepted|\
+    INTEGER A(8), B(4)\n!HPF$ TEMPLATE T(8, 0:9)\n!HPF$ ALIGN B(:) WITH T(2:8:2,0)~accepted|\
+    INTEGER A(8), B(4)\n!HPF$ TEMPLATE T(8, 0:9)\n!HPF$ ALIGN B(:) WITH T(7:1:-2,0)~accepted|\
+    INTEGER A(8), B(4)\n!HPF$ TEMPLATE T(8, 0:9)\n!HPF$ ALIGN A(*) WITH T(1,9)~accepted|\
+    INTEGER A(8), B(4)\n!HPF$ TEMPLATE T(8, 0:9)\n!HPF$ ALIGN A(J) WITH T(*,J+1)~accepted|\
+    INTEGER A(8), B(4)\n!HPF$ TEMPLATE T(8, 0:9)\n!HPF$ ALIGN A(J) WITH T(0*J+2,0)~accepted|\
+    INTEGER A(4), B(4)\n!HPF$ ALIGN A WITH B\n!HPF$ ALIGN B WITH A~refused 40 at 2:13|\
+    INTEGER A(4)\n!HPF$ ALIGN A WITH A~refused 40 at 2:13|\
+    INTEGER A(4), B(4), C(4), D(4)\n!HPF$ ALIGN D WITH A\n!HPF$ ALIGN A WITH B\n!HPF$ ALIGN B WITH C\n!HPF$ ALIGN C WITH A~refused 40 at 3:13|\
+    INTEGER A(4), B(4)\n!HPF$ TEMPLATE T(4)\n!HPF$ ALIGN A WITH B\n!HPF$ ALIGN B WITH T~accepted|\
+    INTEGER A(4)\n!HPF$ TEMPLATE T(4)\n!HPF$ ALIGN A(I) WITH T(I+1)~refused 39 at 3:13|\
+    INTEGER A(4)\n!HPF$ TEMPLATE T(4,4)\n!HPF$ ALIGN A(I) WITH T(I,I)~refused 36 at 3:27|\
+    INTEGER A(4)\n!HPF$ PROCESSORS P(2)\n!HPF$ DISTRIBUTE A(BLOCK)\n!HPF$ DISTRIBUTE A(BLOCK)~refused 35 at 4:18|\
+    INTEGER A(4)\n!HPF$ TEMPLATE T(4)\n!HPF$ PROCESSORS P(2)\n!HPF$ ALIGN A WITH T\n!HPF$ DISTRIBUTE A(BLOCK)~refused 35 at 5:18|\
+    INTEGER A(4)\n!HPF$ PROCESSORS P(2)\n!HPF$ DISTRIBUTE (BLOCK) :: A, A~refused 35 at 3:32|\
+    INTEGER A(4)\n!HPF$ DISTRIBUTE A(BLOCK)~refused 34 at 2:18|\
+    INTEGER A(4)\n!HPF$ PROCESSORS P(2,2)\n!HPF$ DISTRIBUTE A(BLOCK)~refused 34 at 3:18|\
+    INTEGER A(4)\n!HPF$ DISTRIBUTE A(BLOCK)\n!HPF$ PROCESSORS P(2,33)~refused 26 at 3:18|\
+    INTEGER A(4)\n!HPF$ PROCESSORS P(2,2), Q(2)\n!HPF$ DISTRIBUTE A(BLOCK)~accepted|\
+    INTEGER A(4,4)\n!HPF$ PROCESSORS P(2)\n!HPF$ DISTRIBUTE A(BLOCK) ONTO P~refused 24 at 3:18|\
+    INTEGER A(4,4)\n!HPF$ PROCESSORS P(2)\n!HPF$ DISTRIBUTE A(BLOCK, BLOCK) ONTO P~refused 24 at 3:39|\
+    INTEGER A(4,4)\n!HPF$ TEMPLATE T(4)\n!HPF$ ALIGN A(I) WITH T(I)~refused 24 at 3:13|\
+    INTEGER A(4)\n!HPF$ TEMPLATE T(4)\n!HPF$ ALIGN A(I) WITH T(I,1)~refused 24 at 3:23|\
+    INTEGER A(4)\n!HPF$ TEMPLATE T(4,4)\n!HPF$ ALIGN A WITH T~refused 38 at 3:13|\
+    INTEGER A(4,4)\n!HPF$ TEMPLATE T(4,4)\n!HPF$ ALIGN A(I,I) WITH T(I,1)~refused 36 at 3:17|\
+    INTEGER A(4)\n!HPF$ TEMPLATE T(16)\n!HPF$ ALIGN A(I) WITH T(I*I)~refused 37 at 3:27|\
+    INTEGER A(2,2)\n!HPF$ TEMPLATE T(9)\n!HPF$ ALIGN A(I,J) WITH T(I+J)~refused 37 at 3:29|\
+    INTEGER A(4)\n!HPF$ TEMPLATE T(9)\n!HPF$ ALIGN A(I) WITH T(I:4)~refused 37 at 3:25|\
+    INTEGER A(4)\n!HPF$ TEMPLATE T(4,4)\n!HPF$ ALIGN A(I) WITH T(I,I:4)~refused 36 at 3:27|\
+    INTEGER A(4)\n!HPF$ TEMPLATE T(9)\n!HPF$ ALIGN A(:) WITH T(1:4:0)~refused 38 at 3:13|\
+    INTEGER A(4)\n!HPF$ TEMPLATE T(9)\n!HPF$ ALIGN A(:) WITH T(1:9:2)~refused 38 at 3:13|\
+    INTEGER A(4)\n!HPF$ TEMPLATE T(9)\n!HPF$ ALIGN A(:) WITH T(1:8:2)~accepted|\
+    INTEGER A(4)\n!HPF$ TEMPLATE T(9)\n!HPF$ ALIGN A(:) WITH T(1:7:2)~accepted|\
+    INTEGER A(4)\n!HPF$ TEMPLATE T(9)\n!HPF$ ALIGN A(:) WITH T(8:1:-2)~accepted|\
+    INTEGER A(4)\n!HPF$ TEMPLATE T(9)\n!HPF$ ALIGN A(:) WITH T(1:8:-2)~refused 38 at 3:13|\
+    INTEGER A(4)\n!HPF$ TEMPLATE T(0:9)\n!HPF$ ALIGN A(:) WITH T(::3)~accepted|\
+    INTEGER A(4)\n!HPF$ TEMPLATE T(9)\n!HPF$ ALIGN A(:) WITH T(3:12:3)~refused 39 at 3:13|\
+    INTEGER A(4)\n!HPF$ TEMPLATE T(7)\n!HPF$ ALIGN A(I) WITH T(2*I)~refused 39 at 3:13|\
+    INTEGER A(4)\n!HPF$ TEMPLATE T(8)\n!HPF$ ALIGN A(I) WITH T(2*I)~accepted|\
+    INTEGER A(4)\n!HPF$ TEMPLATE T(4)\n!HPF$ ALIGN A(I) WITH T(I-1)~refused 39 at 3:13|\
+    INTEGER A(10)\n!HPF$ TEMPLATE T(10)\n!HPF$ ALIGN A(I) WITH T(11-I)~accepted|\
+    INTEGER A(10)\n!HPF$ TEMPLATE T(10)\n!HPF$ ALIGN A(I) WITH T(10-I)~refused 39 at 3:13|\
+    INTEGER A(4)\n!HPF$ TEMPLATE T(9)\n!HPF$ ALIGN A(*) WITH T(9)~accepted|\
+    INTEGER A(4)\n!HPF$ TEMPLATE T(9)\n!HPF$ ALIGN A(*) WITH T(10)~refused 39 at 3:13|\
+    INTEGER A(1)\n!HPF$ TEMPLATE T(9)\n!HPF$ ALIGN A(I) WITH T(2147483647*I-2147483646)~accepted|\
+    INTEGER A(4)\n!HPF$ TEMPLATE T(9)\n!HPF$ ALIGN A(I) WITH T(2147483647*I*2)~refused 26 at 3:37|\
+    INTEGER A(4)\n!HPF$ TEMPLATE T(9)\n!HPF$ ALIGN A(I) WITH T((I+2147483647)+1)~refused 26 at 3:39|\
+    INTEGER A(4)\n!HPF$ TEMPLATE T(9)\n!HPF$ ALIGN A(I) WITH T(2147483647+1-I)~refused 26 at 3:35|\
+    INTEGER A(4)\n!HPF$ TEMPLATE T(4)\n!HPF$ ALIGN A(I) WITH T(I+M)~refused 22 at 3:27|\
+    !HPF$ ALIGN A(I) WITH T(I+1)\nINTEGER A(4)\n!HPF$ TEMPLATE T(4:3)~refused 25 at 3:18|\
+    INTEGER A(4), B(5)\n!HPF$ TEMPLATE T(4)\n!HPF$ ALIGN (I) WITH T(I) :: A, B~refused 39 at 3:33|\
+    INTEGER A(3)\n!HPF$ PROCESSORS P(2)\n!HPF$ DISTRIBUTE A(BLOCK) ONTO P\n!PIPE$ INPUT A\n!PIPE$ INPUT A~refused 42 at 5:14|\
+    INTEGER A(3)\n!PIPE$ INPUT A~refused 42 at 2:14|\
+    INTEGER A(3)\n!HPF$ TEMPLATE T(3)\n!HPF$ ALIGN A WITH T\n!PIPE$ INPUT A~refused 42 at 4:14|\
+    !PIPE$ INPUT A\nINTEGER A(3)\n!HPF$ PROCESSORS P(2)\n!HPF$ DISTRIBUTE A(BLOCK) ONTO P~accepted|\
+    !PIPE$ INPUT A\nINTEGER A(3), B(3)\n!HPF$ ALIGN A WITH B\n!HPF$ ALIGN B WITH A~refused 40 at 3:13|\
+    !PIPE$ INPUT A\nINTEGER A(3,3)\n!HPF$ PROCESSORS P(2)\n!HPF$ DISTRIBUTE A(BLOCK) ONTO P~refused 24 at 4:18|\
+    !PIPE$ INPUT A\nINTEGER A(3)\n!HPF$ ALIGN A WITH X~refused 22 at 3:20|\
+    ";
+
+/// Rows of which the stages of a pipeline are needed.
+pub const PIPELINES: &str = "\
+    ~refused 42 at 1:1|\
+    INTEGER A(3)~refused 42 at 2:1|\
+    INTEGER A(3)\n! behind\n~refused 42 at 2:1|\
+    INTEGER A( &\n3)~refused 42 at 3:1|\
+    INTEGER A(3 &\n)~refused 42 at 2:1|\
+    IMPLICIT NONE~refused 42 at 2:1|\
+    INTEGER A(3)\n!HPF$ PROCESSORS P(2)\n!HPF$ DISTRIBUTE A(BLOCK) ONTO P\n!PIPE$ INPUT A~accepted|\
+    INTEGER A(3)\n!HPF$ PROCESSORS P(2)\n!HPF$ DISTRIBUTE A(BLOCK) ONTO P\n!PIPE$ INPUT A\n!PIPE$ INPUT A~refused 42 at 5:14|\
+    INTEGER A(3), A(4)~refused 21 at 1:15|\
+    ";
