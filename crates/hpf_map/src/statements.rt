@@ -6,18 +6,16 @@ ghost use Rattle.hpf_syntax.specs.Plain.{item_tree};
 ghost use Rattle.hpf_map.specs.Declarations.{threaded, no_dimensions, names_after, declaration_breaches};
 ghost use Rattle.hpf_map.specs.Found.{least_with};
 ghost use Rattle.hpf_map.specs.Layers.{names_of, ordered_breaches, breaches_in, judged, Judges};
-ghost use Rattle.hpf_map.specs.Subscripts.{all_subscripts, statement_subscripts};
 ghost use Rattle.hpf_map.specs.Uses.{item_use_breaches};
 
 use crate::breaches::Breaches;
 use crate::constants::declare_constants;
 use crate::declare::{common_limit, declare_all, dimensions};
-use crate::directives::read_directive;
+use crate::directives::test_directive;
 use crate::name::{Dimensions, Shape, Space};
 use crate::names::Names;
 use crate::scope::Scope;
 use crate::shapes::MAX_EXTENT;
-use crate::subscripts::Subscripts;
 use crate::uses::test_item;
 use hpf_lex::MapError;
 use hpf_syntax::{Bound, Constant, Declared, Item, Items};
@@ -105,50 +103,34 @@ fn declare_item(
     }
 }
 
-/// Reads a statement behind others: its expressions, and then what it declares. Of an ALIGN it gives what the subscripts
-/// say.
+/// Reads a statement behind others: its expressions, and then what it declares.
 #[tactic(auto, using(crate::proofs::FoundLemmas::least_with_laws), unfolding(crate::specs::Layers::ordered_breaches))]
 fn read_item(
     alloc: Global,
     names: &mut Names,
     item: &Item,
     breaches: &mut Breaches,
-) -> Result<Option<Subscripts>, AllocError>
+) -> Result<(), AllocError>
     ensures names { OnOk result (names.new ≡ names_after names.old (item_tree item.now)) }
-    ensures said { IfOk result (λ s. s ≡ statement_subscripts names.old (item_tree item.now)) }
     ensures breaches { OnOk result (breaches.new ≡ least_with breaches.old
         (ordered_breaches names.old (item_tree item.now))) }
 {
-    let said = read_directive(alloc, &Scope::behind(names), item, breaches)?;
-    declare_item(alloc, names, item, breaches)?;
-    Ok(said)
-}
-
-/// What statements declare, and what the subscripts of each say.
-#[derive(Drop)]
-pub(crate) struct Statements {
-    pub names: Names,
-    pub said: Vec<Option<Subscripts>>,
+    test_directive(alloc, &Scope::behind(names), item, breaches)?;
+    declare_item(alloc, names, item, breaches)
 }
 
 /// Reads statements one after another.
-#[tactic(auto, using(crate::proofs::FoundLemmas::least_with_laws), unfolding(crate::specs::Subscripts::all_subscripts))]
-fn read_items(
-    alloc: Global,
-    items: &[Item],
-    breaches: &mut Breaches,
-) -> Result<Statements, AllocError>
-    ensures names { IfOk result (λ s. s.names ≡ fold names_after [] (map item_tree items.now)) }
-    ensures said { IfOk result (λ s. s.said.items ≡ all_subscripts (map item_tree items.now)) }
+#[tactic(auto, using(crate::proofs::FoundLemmas::least_with_laws))]
+fn read_items(alloc: Global, items: &[Item], breaches: &mut Breaches) -> Result<Names, AllocError>
+    ensures names { IfOk result (λ names. names ≡ fold names_after [] (map item_tree items.now)) }
     ensures breaches { OnOk result (breaches.new ≡ least_with breaches.old
         (threaded names_after ordered_breaches [] (map item_tree items.now))) }
 {
     let mut names = Names::new(alloc);
-    let mut said = Vec::new(alloc);
     for item in items {
-        said.push(read_item(alloc, &mut names, item, breaches)?)?;
+        read_item(alloc, &mut names, item, breaches)?;
     }
-    Ok(Statements { names, said })
+    Ok(names)
 }
 
 /// The names that directives and pipeline lines use.
@@ -162,21 +144,20 @@ fn test_items(names: &Names, items: &[Item], breaches: &mut Breaches)
     }
 }
 
-/// What statements declare and what their subscripts say. The breaches in names, values, shapes and lists are taken in.
+/// The names that statements declare. The breaches in names, values, shapes and lists are taken in.
 #[tactic(auto, using(crate::proofs::FoundLemmas::least_with_laws), unfolding(crate::specs::Layers::names_of, crate::specs::Layers::breaches_in))]
-pub(crate) fn read_statements(
+pub(crate) fn read_names(
     alloc: Global,
     items: &[Item],
     breaches: &mut Breaches,
-) -> Result<Statements, AllocError>
-    ensures names { IfOk result (λ s. s.names ≡ names_of (map item_tree items.now)) }
-    ensures said { IfOk result (λ s. s.said.items ≡ all_subscripts (map item_tree items.now)) }
+) -> Result<Names, AllocError>
+    ensures names { IfOk result (λ names. names ≡ names_of (map item_tree items.now)) }
     ensures breaches { OnOk result (breaches.new ≡ least_with breaches.old
         (breaches_in (map item_tree items.now))) }
 {
-    let statements = read_items(alloc, items, breaches)?;
-    test_items(&statements.names, items, breaches);
-    Ok(statements)
+    let names = read_items(alloc, items, breaches)?;
+    test_items(&names, items, breaches);
+    Ok(names)
 }
 
 /// The names that a text declares, each with what its first declaration makes it. The text is refused where one of its
@@ -187,9 +168,9 @@ pub fn declared_names(alloc: Global, items: &Items) -> Result<Names, MapError>
     ensures { Judges result (judged (map item_tree items.now)) }
 {
     let mut breaches = Breaches::new();
-    let statements = read_statements(alloc, items.as_slice(), &mut breaches)?;
+    let names = read_names(alloc, items.as_slice(), &mut breaches)?;
     match breaches.least() {
-        None => Ok(statements.names),
+        None => Ok(names),
         Some(first) => Err(MapError::Refused(first)),
     }
 }

@@ -1,28 +1,20 @@
 use super::*;
-use crate::breaches::Breaches;
-use crate::checked::check_items;
-use hpf_lex::{MapError, MapRefusal, tokens};
+use hpf_lex::{MapError, tokens};
 use hpf_syntax::parse;
-use hpf_vectors::constraints::{DIRECTIVES, PIPELINES};
+use hpf_vectors::constraints::DECLARATIONS;
 use std::alloc::{AllocError, Global};
 use std::fmt::Write;
 use std::process::Abort;
 use std::test::Fail;
 
-/// Checks a text's statements, and gives its first breach, if there is one.
-fn first_breach(alloc: Global, text: &[u8], need: Need) -> Result<Option<MapRefusal>, MapError> {
-    let tokens = tokens(alloc, text)?;
-    let items = parse(alloc, &tokens)?;
-    let mut breaches = Breaches::new();
-    let _ = check_items(alloc, items.as_slice(), need, &mut breaches)?;
-    Ok(breaches.least())
-}
-
 /// Whether a text is accepted, or its first breach.
-fn judge(alloc: Global, text: &[u8], need: Need) -> Result<String, AllocError> {
-    match first_breach(alloc, text, need) {
-        Ok(None) => String::from_str(alloc, "accepted"),
-        Ok(Some(r)) | Err(MapError::Refused(r)) => {
+fn judge(alloc: Global, text: &[u8]) -> Result<String, AllocError> {
+    let judged = tokens(alloc, text)
+        .and_then(|tokens| parse(alloc, &tokens))
+        .and_then(|items| declared_names(alloc, &items));
+    match judged {
+        Ok(_) => String::from_str(alloc, "accepted"),
+        Err(MapError::Refused(r)) => {
             format!(in alloc; "refused {} at {}:{}", r.code, r.line, r.column)
         }
         Err(MapError::Memory(error)) => Err(error),
@@ -44,16 +36,12 @@ fn text_of(alloc: Global, row: &str) -> Result<String, AllocError> {
 }
 
 /// Tries each of these rows, and answers how many there are.
-fn try_rows(
-    rt: &(impl Alloc<A = Global> + Abort),
-    need: Need,
-    rows: &str,
-) -> Result<usize, AllocError> {
+fn try_rows(rt: &(impl Alloc<A = Global> + Abort), rows: &str) -> Result<usize, AllocError> {
     let mut count = 0usize;
     for row in rows.split('|') {
         if let Some((text, expected)) = row.split_once('~') {
             let text = text_of(rt.alloc(), text)?;
-            let judged = judge(rt.alloc(), text.as_bytes(), need)?;
+            let judged = judge(rt.alloc(), text.as_bytes())?;
             assert_eq!(rt; judged.as_str(), expected, "{text:?}");
             count = count.saturating_add(1);
         }
@@ -63,7 +51,6 @@ fn try_rows(
 
 #[test]
 fn rows(rt: HostRuntime) -> Result<(), Fail> {
-    assert_eq!(rt; try_rows(&rt, Need::Mapping, DIRECTIVES)?, 58);
-    assert_eq!(rt; try_rows(&rt, Need::Pipeline, PIPELINES)?, 9);
+    assert_eq!(rt; try_rows(&rt, DECLARATIONS)?, 148);
     Ok(())
 }
