@@ -16,7 +16,7 @@ pub count_seen : (bounds : List Bound) → length (map bound_tree bounds) ≡ le
 count_seen bounds = simp length-map
 
 -- one more behind others
-threaded_push : {S A B : Type 0} (next : S → A → S) (give : S → A → List B) (s : S) (xs : List A) (x : A)
+pub threaded_push : {S A B : Type 0} (next : S → A → S) (give : S → A → List B) (s : S) (xs : List A) (x : A)
     → threaded next give s (xs ++ x ∷ []) ≡ threaded next give s xs ++ give (fold next s xs) x
 threaded_push next give s [] x = append-nil (give s x)
 threaded_push next give s (y ∷ xs) x =
@@ -29,7 +29,8 @@ pub record Threads {S A B : Type 0} (see : A → B) (next : S → B → S) (give
   pub state : s1 ≡ fold next s0 (map see (take i xs))
   pub breaches : h1 ≡ least_with h0 (threaded next give s0 (map see (take i xs)))
 
-seen_more : {A B : Type 0} (see : A → B) (xs : List A) (i : ℕ) (x : A) → i < length xs → x ≡ get_or xs i x
+-- one more of a list, each seen as something else
+pub seen_more : {A B : Type 0} (see : A → B) (xs : List A) (i : ℕ) (x : A) → i < length xs → x ≡ get_or xs i x
     → map see (take (i + 1) xs) ≡ map see (take i xs) ++ see x ∷ []
 seen_more see xs i x below is =
     ap (map see) (take_more xs i x below ∙ ap (λ y. take i xs ++ y ∷ []) (sym is)) ∙ map-append see (take i xs) (x ∷ [])
@@ -50,6 +51,16 @@ Threads-more {see = see} {next = next} {give = give} {xs = xs} {i = i} {s0 = s0}
           ∙ least_with-append h0 (threaded next give s0 (map see (take i xs))) (give (fold next s0 (map see (take i xs))) (see x))
           ∙ sym (ap (λ l. least_with h0 (threaded next give s0 l)) more ∙ ap (least_with h0) (threaded_push next give s0 (map see (take i xs)) (see x)));
     }
+
+-- what one element more gives, of a list in which each is seen as something else
+pub threaded_more : {S A B C : Type 0} (see : A → B) (next : S → B → S) (give : S → B → List C) (xs : List A) (i : ℕ) (x : A) (s0 s1 : S)
+    (before after : List C) → i < length xs → x ≡ get_or xs i x → s1 ≡ fold next s0 (map see (take i xs))
+    → before ≡ threaded next give s0 (map see (take i xs)) → after ≡ before ++ give s1 (see x)
+    → after ≡ threaded next give s0 (map see (take (i + 1) xs))
+threaded_more see next give xs i x s0 s1 before after below is s b a =
+    a ∙ ap (λ l. l ++ give s1 (see x)) b ∙ ap (λ u. threaded next give s0 (map see (take i xs)) ++ give u (see x)) s
+    ∙ sym (threaded_push next give s0 (map see (take i xs)) (see x))
+    ∙ ap (threaded next give s0) (sym (seen_more see xs i x below is))
 
 list_any_seen : {A B : Type 0} (see : A → B) (p : B → Bool) (xs : List A) → list_any p (map see xs) ≡ list_any (λ x. p (see x)) xs
 list_any_seen see p [] = refl

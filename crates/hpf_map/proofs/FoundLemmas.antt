@@ -1,12 +1,13 @@
 -- Of refusals that are taken in one after another the one that comes first is kept.
 use Rattle.std.proofs.Common.{◌≡◌, ℕ, ◌+◌, ◌<◌, ◌≤◌, Bool, true, false, List, [], ◌∷◌, ◌++◌, length, get_or, take, map, Option, Some, None, refl, sym, ap, ◌∙◌, append_assoc, arith}
-use Rattle.std.specs.Prelude.{option_to_list}
+use Rattle.std.specs.Prelude.{option_to_list, is_none}
 use Rattle.std.specs.List.{flat_map}
-use Rattle.std.proofs.lemmas.List.{take_more, map-append, flat_map_more}
+use Rattle.std.proofs.lemmas.List.{append-nil, take_more, map-append, flat_map_more}
 use Rattle.std.proofs.lemmas.Bool.Decides.{nat_tests}
 use Rattle.hpf_lex.specs.declared.refusal.MapRefusal.{MapRefusal}
 use Rattle.hpf_lex.specs.Order.{comes_before, least_of, least}
 use Rattle.hpf_map.specs.Found.{least_with}
+use Rattle.hpf_map.specs.Subscripts.{is_empty}
 
 -- an earlier line, or the same and an earlier column, or both the same and a lesser code, without a choice
 record Earlier (f g : MapRefusal) : Type 0 where
@@ -84,6 +85,19 @@ least_with-nil (Some f) = refl
 pub least_with-append : (earlier : Option MapRefusal) (xs ys : List MapRefusal) → least_with (least_with earlier xs) ys ≡ least_with earlier (xs ++ ys)
 unfolding least_with
 least_with-append earlier xs ys = least-least (option_to_list earlier ++ xs) ys ∙ ap least (append_assoc (option_to_list earlier) xs ys)
+
+-- taking in the first of some is taking in all of them
+pub least_with-first : (earlier : Option MapRefusal) (xs : List MapRefusal) → least_with earlier (option_to_list (least_with None xs)) ≡ least_with earlier xs
+unfolding least_with
+least_with-first None xs = ap least (sym (append-nil (option_to_list (least xs)))) ∙ least-least xs [] ∙ ap least (append-nil xs)
+least_with-first (Some f) xs =
+    ap (λ o. Some (least_of f o)) (ap least (sym (append-nil (option_to_list (least xs)))) ∙ least-least xs [] ∙ ap least (append-nil xs))
+
+-- there is a first one exactly where there are some
+pub none_first : (xs : List MapRefusal) → is_none (least_with None xs) ≡ is_empty xs
+unfolding least_with
+none_first [] = refl
+none_first (x ∷ xs) = refl
 
 -- both, for the tactics
 pub ruleset least_with_laws = (least_with-nil, least_with-append)

@@ -1,6 +1,7 @@
 -- Values that are gathered one after another.
-use Rattle.std.proofs.Common.{◌≡◌, ℕ, ◌+◌, ◌<◌, List, [], ◌∷◌, ◌++◌, length, get_or, take, map, Option, Some, None, refl, sym, ap, ◌∙◌}
-use Rattle.std.specs.Prelude.{option_map}
+use Rattle.std.proofs.Common.{◌≡◌, ℕ, suc, ◌+◌, ◌<◌, List, [], ◌∷◌, ◌++◌, length, get_or, take, map, All, Option, Some, None, refl, sym, ap, subst, ◌∙◌, arith}
+use Rattle.std.specs.Prelude.{option_map, unwrap_or}
+use Rattle.std.proofs.lemmas.List.Elements.{All-cons}
 use Rattle.std.proofs.lemmas.List.{take_more, map-append}
 use Rattle.hpf_map.specs.Gathered.{all_of, with_one}
 
@@ -29,3 +30,37 @@ gather_more see f xs i x before after below is b e =
     ∙ ap all_of (sym (map-append f (map see (take i xs)) (see x ∷ []))
     ∙ ap (map f) (sym (map-append see (take i xs) (x ∷ []))
     ∙ ap (map see) (ap (λ y. take i xs ++ y ∷ []) is ∙ sym (take_more xs i x below))))
+
+-- ---- what all values have in common
+
+some_same : {A : Type 0} (x y : A) → Some x ≡ Some y → x ≡ y
+some_same x y e = ap (λ o. unwrap_or o x) e
+
+none_is_no_list : {A B : Type 0} (x : A) → None ≡ Some x → B
+none_is_no_list x e = absurd cc
+
+front_of : {A : Type 0} (x : A) (o : Option (List A)) (ys : List A) → option_map (λ xs. x ∷ xs) o ≡ Some ys
+    → (xs : List A) × (o ≡ Some xs) × (ys ≡ x ∷ xs)
+front_of x None ys e = none_is_no_list ys e
+front_of x (Some xs) ys e = (xs, refl, sym (some_same (x ∷ xs) ys e))
+
+-- there are as many of them
+pub all_of_length : {A : Type 0} (os : List (Option A)) (ys : List A) → all_of os ≡ Some ys → length ys ≡ length os
+unfolding all_of
+all_of_length [] ys e = ap length (sym (some_same [] ys e))
+all_of_length (None ∷ os) ys e = none_is_no_list ys e
+all_of_length (Some x ∷ os) ys e =
+    let f = front_of x (all_of os) ys e in
+    ap length f.2 ∙ ap suc (all_of_length os f.0 f.1)
+
+-- each is one that the function gives
+pub all_of_all : {A B : Type 0} (P : A → Type 0) (f : B → Option A) → ((b : B) (x : A) → f b ≡ Some x → P x)
+    → (bs : List B) (ys : List A) → all_of (map f bs) ≡ Some ys → All P ys
+unfolding all_of
+all_of_all P f h [] ys e = subst (All P) (some_same [] ys e) (λ k d l. absurd (omega (arith, l)))
+all_of_all {A} P f h (b ∷ bs) ys e = each (f b) refl e (λ zs r. all_of_all P f h bs zs r) where
+  each : (o : Option A) → f b ≡ o → all_of (o ∷ map f bs) ≡ Some ys → ((zs : List A) → all_of (map f bs) ≡ Some zs → All P zs) → All P ys
+  each None is e more = none_is_no_list ys e
+  each (Some x) is e more =
+      let r = front_of x (all_of (map f bs)) ys e in
+      subst (All P) (sym r.2) (All-cons P x r.0 (h b x is) (more r.0 r.1))

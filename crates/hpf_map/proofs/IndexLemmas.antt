@@ -39,7 +39,7 @@ first_in_front p k x xs i false t later e =
     let l : IsFirstAt p (k + 1) xs i = later e in
     record { from = omega (arith, l.from); below = omega (arith, l.below); first = λ d. rw t (l.first d ∙ get_there k i x xs d l.from) }
 
-first_at : {A : Type 0} (p : A → Bool) (k : ℕ) (xs : List A) (i : ℕ) → position_from p k xs ≡ Some i → IsFirstAt p k xs i
+pub first_at : {A : Type 0} (p : A → Bool) (k : ℕ) (xs : List A) (i : ℕ) → position_from p k xs ≡ Some i → IsFirstAt p k xs i
 first_at p k [] i e = absurd cc
 first_at p k (x ∷ xs) i e = first_in_front p k x xs i (p x) refl (first_at p (k + 1) xs i) e
 
@@ -49,7 +49,7 @@ none_in_front : {A : Type 0} (p : A → Bool) (k : ℕ) (x : A) (xs : List A) (b
 none_in_front p k x xs true later e = absurd cc
 none_in_front p k x xs false later e = later e
 
-none_at : {A : Type 0} (p : A → Bool) (k : ℕ) (xs : List A) → position_from p k xs ≡ None → find p xs ≡ None
+pub none_at : {A : Type 0} (p : A → Bool) (k : ℕ) (xs : List A) → position_from p k xs ≡ None → find p xs ≡ None
 none_at p k [] e = refl
 none_at p k (x ∷ xs) e = none_in_front p k x xs (p x) (none_at p (k + 1) xs) e
 

@@ -14,7 +14,8 @@ use Rattle.hpf_map.specs.Gathered.{all_of}
 use Rattle.hpf_map.specs.Shapes.{span, bound_breaches, shape, shape_breaches}
 use Rattle.hpf_map.specs.Constants.{value_breaches}
 use Rattle.hpf_map.specs.Declarations.{naming_breaches, shaped_name, declared_dimensions, with_declared, declared_breaches, has_wrong_rank, constant_name, with_constant, constant_breaches, names_after, declaration_breaches}
-use Rattle.hpf_map.specs.Expressions.{format_breaches, width_breaches, operation_breaches, directive_breaches}
+use Rattle.hpf_map.specs.Expressions.{format_breaches, width_breaches, operation_breaches, align_expression_breaches, directive_breaches}
+use Rattle.hpf_map.specs.Subscripts.{subscripts_of}
 use Rattle.hpf_map.specs.Found.{least_with}
 
 -- places, names and statements
@@ -73,7 +74,7 @@ common_shape = refl
 
 -- !HPF$ ALIGN A WITH T, then INTEGER A(4), then !HPF$ TEMPLATE T(4): each name may be declared later
 later_in_a_directive : directive_is_free (Align (spot A 1 13 ∷ []) None (spot T 1 20) None ∷ Variables [] (declared A 2 9 (upper (Number (on 2 11) 4) ∷ []) ∷ []) ∷ Template (declared T 3 16 (upper (Number (on 3 18) 4) ∷ []) ∷ []) ∷ []) ≡ true
-unfolding least_with breaches_in names_of ordered_breaches known declare use_breaches name_breaches in_range value operator_breaches expression_breaches all_of span bound_breaches shape shape_breaches value_breaches naming_breaches shaped_name declared_dimensions with_declared declared_breaches has_wrong_rank constant_name with_constant constant_breaches names_after declaration_breaches format_breaches width_breaches operation_breaches directive_breaches
+unfolding least_with breaches_in names_of ordered_breaches known declare use_breaches name_breaches in_range value operator_breaches expression_breaches all_of span bound_breaches shape shape_breaches value_breaches naming_breaches shaped_name declared_dimensions with_declared declared_breaches has_wrong_rank constant_name with_constant constant_breaches names_after declaration_breaches format_breaches width_breaches operation_breaches directive_breaches align_expression_breaches subscripts_of
 later_in_a_directive = refl
 
 -- INTEGER, PARAMETER :: N = (/ 1 /)

@@ -1,11 +1,11 @@
--- The expressions of directives and of pipeline lines, wherever they stand, where these names are declared before. In the
--- subscripts of ALIGN names alone are tested here.
-use Rattle.std.specs.Prelude.{List, [], ◌++◌, Option, Some, None}
+-- The expressions of directives and of pipeline lines, wherever they stand, where these names are declared before.
+use Rattle.std.specs.Prelude.{ℕ, Bool, List, [], ◌++◌, Option, Some, None}
 use Rattle.std.specs.List.{flat_map}
 use Rattle.hpf_lex.specs.declared.refusal.MapRefusal.{MapRefusal}
 use Rattle.hpf_syntax.specs.declared.tree.SourceItem.{SourceItem}
 use Rattle.hpf_syntax.specs.Plain.{Tree, FormatTree, Block, Cyclic, SubTree, WidthTree, OpTree, Plain, Add, Mul, Prefix, Stencil, ItemTree, Distribute, Align, Shadow, Input, Stage}
 use Rattle.hpf_map.specs.declared.name.Name.{Name}
+use Rattle.hpf_map.specs.Subscripts.{dummy_breaches, forms_breaches}
 use Rattle.hpf_map.specs.Uses.{subscript_breaches, dummies}
 use Rattle.hpf_map.specs.Values.{expression_breaches, maybe_expression_breaches}
 
@@ -34,14 +34,19 @@ module _ (before : List Name) where
   operation_breaches (Stencil at e weights) = expression_breaches before e ++ flat_map (expression_breaches before) weights
 
   -- the names in the subscripts of ALIGN
-  abbrev pub subscripts_breaches : Option (List SourceItem) → Option (List SubTree) → List MapRefusal
-  subscripts_breaches sources None = []
-  subscripts_breaches sources (Some subs) = flat_map (subscript_breaches before (dummies sources)) subs
+  abbrev pub subscript_name_breaches : (List ℕ → Bool) → Option (List SubTree) → List MapRefusal
+  subscript_name_breaches hides None = []
+  subscript_name_breaches hides (Some subs) = flat_map (subscript_breaches before hides) subs
+
+  -- names, operators and dummies in the subscripts of an ALIGN whose dummies hide these words
+  unfoldable pub align_expression_breaches : (List ℕ → Bool) → Option (List SourceItem) → Option (List SubTree) → List MapRefusal
+  align_expression_breaches hides sources subs =
+      subscript_name_breaches hides subs ++ forms_breaches before hides subs ++ dummy_breaches hides sources subs
 
   -- all expressions of a statement that declares nothing
   unfoldable pub directive_breaches : ItemTree → List MapRefusal
   directive_breaches (Distribute names formats onto) = flat_map format_breaches formats
-  directive_breaches (Align names sources base subs) = subscripts_breaches sources subs
+  directive_breaches (Align names sources base subs) = align_expression_breaches (dummies sources) sources subs
   directive_breaches (Shadow names widths) = flat_map width_breaches widths
   directive_breaches (Input at name buffers op) = maybe_expression_breaches before buffers ++ operation_breaches op
   directive_breaches (Stage at name permute buffers op) =

@@ -1,6 +1,6 @@
 //! The breach that comes first.
 
-ghost use Rattle.std.specs.Prelude.{◌≡◌, [], ◌∷◌, Some, None};
+ghost use Rattle.std.specs.Prelude.{◌≡◌, [], ◌∷◌, Some, None, option_to_list, is_none};
 ghost use Rattle.hpf_map.specs.Constraint.{breach, breach_if};
 ghost use Rattle.hpf_map.specs.Found.{least_with};
 
@@ -33,6 +33,13 @@ impl Breaches {
         Breaches { least: None }
     }
 
+    /// Whether there is none.
+    pub(crate) fn is_empty(&self) -> bool
+        ensures { result ≡ is_none self.now }
+    {
+        self.least.is_none()
+    }
+
     /// The breach that comes first.
     pub(crate) fn least(&self) -> Option<MapRefusal>
         ensures { result ≡ self.now }
@@ -41,11 +48,17 @@ impl Breaches {
     }
 
     /// Takes a breach at this place in.
-    #[tactic(auto, unfolding(crate::specs::Found::least_with))]
     pub(crate) fn note(&mut self, constraint: Constraint, at: At)
         ensures { self.new ≡ least_with self.old (breach constraint at ∷ []) }
     {
-        let found = constraint.at(at);
+        self.take(constraint.at(at));
+    }
+
+    /// Takes a breach in.
+    #[tactic(auto, unfolding(crate::specs::Found::least_with))]
+    fn take(&mut self, found: MapRefusal)
+        ensures { self.new ≡ least_with self.old (found ∷ []) }
+    {
         let least = self.least;
         self.least = match least {
             Some(least) if !found.comes_before(&least) => Some(least),
@@ -60,6 +73,16 @@ impl Breaches {
     {
         if broken {
             self.note(constraint, at);
+        }
+    }
+
+    /// Takes the first breach of others in.
+    #[tactic(auto, using(crate::proofs::FoundLemmas::least_with_laws))]
+    pub(crate) fn take_in(&mut self, others: &Breaches)
+        ensures { self.new ≡ least_with self.old (option_to_list others.now) }
+    {
+        if let Some(found) = others.least {
+            self.take(found);
         }
     }
 }

@@ -20,6 +20,22 @@ pub enum Constraint {
     Empty,
     /// A value, a number of bounds, of elements or of names, or an extent is too great.
     Limit,
+    /// No arrangement has as many dimensions as a DISTRIBUTE without ONTO divides.
+    NoArrangement,
+    /// A name is mapped that an earlier directive maps.
+    MappedTwice,
+    /// A dummy stands twice among the sources, or in two subscripts.
+    DummyTwice,
+    /// A subscript has more than one dummy, or a triplet has one.
+    NotLinear,
+    /// The `:` sources and the triplets don't match.
+    Unlike,
+    /// An element is aligned with a position outside the base.
+    Outside,
+    /// An alignee is aligned with itself, over others or at once.
+    Cycle,
+    /// The lines of a pipeline don't go together.
+    Pipeline,
 }
 
 impl Constraint {
@@ -36,6 +52,14 @@ impl Constraint {
             Constraint::Rank => 24,
             Constraint::Empty => 25,
             Constraint::Limit => 26,
+            Constraint::NoArrangement => 34,
+            Constraint::MappedTwice => 35,
+            Constraint::DummyTwice => 36,
+            Constraint::NotLinear => 37,
+            Constraint::Unlike => 38,
+            Constraint::Outside => 39,
+            Constraint::Cycle => 40,
+            Constraint::Pipeline => 42,
         }
     }
 

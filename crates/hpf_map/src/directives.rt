@@ -1,20 +1,27 @@
 //! Expressions in directives and in pipeline lines.
 
-ghost use Rattle.std.specs.Prelude.{◌≡◌, List, map, option_map, OnOk};
+ghost use Rattle.std.specs.Prelude.{◌≡◌, List, Some, map, option_map, IfOk, OnOk};
 ghost use Rattle.std.specs.List.{flat_map};
 ghost use Rattle.hpf_syntax.specs.Plain.{Tree, tree, FormatTree, format_tree, WidthTree, width_tree, op_tree, sub_tree, item_tree};
 ghost use Rattle.hpf_lex.specs.declared.refusal.MapRefusal.{MapRefusal};
 ghost use Rattle.hpf_map.specs.declared.name.Name.{Name};
-ghost use Rattle.hpf_map.specs.Expressions.{format_breaches, width_breaches, list_breaches, operation_breaches, subscripts_breaches, directive_breaches};
+ghost use Rattle.hpf_map.specs.Expressions.{format_breaches, width_breaches, list_breaches, operation_breaches, subscript_name_breaches, align_expression_breaches, directive_breaches};
 ghost use Rattle.hpf_map.specs.Found.{least_with};
+ghost use Rattle.hpf_map.specs.Hidden.{hides};
+ghost use Rattle.hpf_map.specs.Subscripts.{is_empty, dummy_breaches, subscripts_of, statement_subscripts};
+ghost use Rattle.hpf_map.specs.Uses.{dummies};
 ghost use Rattle.hpf_map.specs.Values.{expression_breaches, maybe_expression_breaches};
 
 use crate::breaches::Breaches;
 use crate::dummies::dummies_of;
+use crate::dummy_places::test_dummies;
 use crate::expressions::{expression, test_subscripts};
 use crate::scope::Scope;
+use crate::subscripts::{Subscripts, said};
+use hpf_lex::Word;
 use hpf_syntax::{Expr, FormatItem, Item, List, OpItem, SourceItem, SubItem, WidthItem};
 use std::alloc::{AllocError, Global};
+use std::collections::BTreeSet;
 
 /// What lists in a directive are made of, with the breaches of the expressions in it.
 trait Part {
@@ -121,39 +128,100 @@ fn test_operation(scope: &Scope, op: &OpItem, breaches: &mut Breaches)
     }
 }
 
-/// The breaches in the subscripts of an ALIGN.
+/// The names in the subscripts of an ALIGN.
 #[tactic(auto, using(crate::proofs::FoundLemmas::least_with_laws))]
-fn test_align(
+fn test_subscript_names(
+    scope: &Scope,
+    dummies: &BTreeSet<Word>,
+    subs: &Option<List<SubItem>>,
+    breaches: &mut Breaches,
+)
+    ensures { breaches.new ≡ least_with breaches.old
+        (subscript_name_breaches scope.now (hides (Some dummies.now)) (option_map (map sub_tree) subs.now)) }
+{
+    if let Some(subs) = subs {
+        test_subscripts(scope, dummies, subs.as_slice(), breaches);
+    }
+}
+
+/// Whether no dummy of an ALIGN has a breach. Those that there are are taken in.
+fn have_free_dummies(
+    alloc: Global,
+    dummies: &BTreeSet<Word>,
+    sources: &Option<List<SourceItem>>,
+    subs: &Option<List<SubItem>>,
+    breaches: &mut Breaches,
+) -> Result<bool, AllocError>
+    ensures free { IfOk result (λ free. free
+        ≡ is_empty (dummy_breaches (hides (Some dummies.now)) sources.now (option_map (map sub_tree) subs.now))) }
+    ensures breaches { OnOk result (breaches.new ≡ least_with breaches.old
+        (dummy_breaches (hides (Some dummies.now)) sources.now (option_map (map sub_tree) subs.now))) }
+{
+    let mut found = Breaches::new();
+    test_dummies(alloc, dummies, sources, subs, &mut found)?;
+    breaches.take_in(&found);
+    Ok(found.is_empty())
+}
+
+/// What the subscripts of an ALIGN with these dummies say, where they are free, and the breaches in them.
+#[tactic(auto, using(crate::proofs::FoundLemmas::least_with_laws), unfolding(crate::specs::Expressions::align_expression_breaches, crate::specs::Subscripts::subscripts_of))]
+fn read_subscripts(
+    alloc: Global,
+    scope: &Scope,
+    dummies: &BTreeSet<Word>,
+    sources: &Option<List<SourceItem>>,
+    subs: &Option<List<SubItem>>,
+    breaches: &mut Breaches,
+) -> Result<Option<Subscripts>, AllocError>
+    ensures said { IfOk result (λ s. s
+        ≡ subscripts_of scope.now (hides (Some dummies.now)) sources.now (option_map (map sub_tree) subs.now)) }
+    ensures breaches { OnOk result (breaches.new ≡ least_with breaches.old
+        (align_expression_breaches scope.now (hides (Some dummies.now)) sources.now (option_map (map sub_tree) subs.now))) }
+{
+    test_subscript_names(scope, dummies, subs, breaches);
+    let said = said(alloc, scope, dummies, subs, breaches)?;
+    if have_free_dummies(alloc, dummies, sources, subs, breaches)? {
+        Ok(said)
+    } else {
+        Ok(None)
+    }
+}
+
+/// The same of an ALIGN with these sources.
+fn read_align(
     alloc: Global,
     scope: &Scope,
     sources: &Option<List<SourceItem>>,
     subs: &Option<List<SubItem>>,
     breaches: &mut Breaches,
-) -> Result<(), AllocError>
-    ensures { OnOk result (breaches.new ≡ least_with breaches.old
-        (subscripts_breaches scope.now sources.now (option_map (map sub_tree) subs.now))) }
+) -> Result<Option<Subscripts>, AllocError>
+    ensures said { IfOk result (λ s. s
+        ≡ subscripts_of scope.now (dummies sources.now) sources.now (option_map (map sub_tree) subs.now)) }
+    ensures breaches { OnOk result (breaches.new ≡ least_with breaches.old
+        (align_expression_breaches scope.now (dummies sources.now) sources.now (option_map (map sub_tree) subs.now))) }
 {
     let dummies = dummies_of(alloc, sources)?;
-    if let Some(subs) = subs {
-        test_subscripts(scope, &dummies, subs.as_slice(), breaches);
-    }
-    Ok(())
+    read_subscripts(alloc, scope, &dummies, sources, subs, breaches)
 }
 
-/// The breaches in the expressions of a directive or of a pipeline line.
+/// What the subscripts of a directive say, where they are free, and the breaches in the expressions of a directive or of
+/// a pipeline line.
 #[tactic(auto, using(crate::proofs::FoundLemmas::least_with_laws), unfolding(crate::specs::Expressions::directive_breaches))]
-pub(crate) fn test_directive(
+pub(crate) fn read_directive(
     alloc: Global,
     scope: &Scope,
     item: &Item,
     breaches: &mut Breaches,
-) -> Result<(), AllocError>
-    ensures { OnOk result (breaches.new ≡ least_with breaches.old
+) -> Result<Option<Subscripts>, AllocError>
+    ensures said { IfOk result (λ s. s ≡ statement_subscripts scope.now (item_tree item.now)) }
+    ensures breaches { OnOk result (breaches.new ≡ least_with breaches.old
         (directive_breaches scope.now (item_tree item.now))) }
 {
     match item {
         Item::Distribute { formats, .. } => test_each(scope, formats.as_slice(), breaches),
-        Item::Align { sources, subs, .. } => test_align(alloc, scope, sources, subs, breaches)?,
+        Item::Align { sources, subs, .. } => {
+            return read_align(alloc, scope, sources, subs, breaches);
+        }
         Item::Shadow { widths, .. } => test_each(scope, widths.as_slice(), breaches),
         Item::Input { buffers, op, .. } => {
             test_maybe(scope, buffers, breaches);
@@ -175,5 +243,5 @@ pub(crate) fn test_directive(
         | Item::Processors(_)
         | Item::Template(_) => {}
     }
-    Ok(())
+    Ok(None)
 }

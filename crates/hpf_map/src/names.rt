@@ -1,7 +1,8 @@
 //! The names that are declared.
 
 ghost use Rattle.std.specs.Prelude.{◌≡◌, [], ◌∷◌, ◌++◌, length, OnOk, option_copied};
-ghost use Rattle.hpf_map.specs.Known.{known, declare, is_full};
+ghost use Rattle.std.specs.List.{position_from};
+ghost use Rattle.hpf_map.specs.Known.{is_named, known, declare, is_full};
 
 use crate::name::Name;
 use hpf_lex::Word;
@@ -58,6 +59,16 @@ impl Names {
     {
         match self.places.get(word) {
             Some(place) => Some(&self.names[*place]),
+            None => None,
+        }
+    }
+
+    /// The place of a word among the names, from 0. None where nothing declares it.
+    pub(crate) fn place(&self, word: &Word) -> Option<usize>
+        ensures { result ≡ position_from (is_named word.now) 0 self.now }
+    {
+        match self.places.get(word) {
+            Some(place) => Some(*place),
             None => None,
         }
     }

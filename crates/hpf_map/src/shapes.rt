@@ -30,7 +30,7 @@ const MAX_PROCESSORS: u64 = 64;
 const MAX_BOUNDS: usize = 7;
 
 /// How many integers lie between two bounds that are in order.
-fn extent(span: &Span) -> u64
+pub(crate) fn extent(span: &Span) -> u64
     ensures { result ≡ extent span.now }
 {
     let width = i64::from(span.high) - i64::from(span.low);

@@ -6,16 +6,18 @@ ghost use Rattle.hpf_syntax.specs.Plain.{item_tree};
 ghost use Rattle.hpf_map.specs.Declarations.{threaded, no_dimensions, names_after, declaration_breaches};
 ghost use Rattle.hpf_map.specs.Found.{least_with};
 ghost use Rattle.hpf_map.specs.Layers.{names_of, ordered_breaches, breaches_in, judged, Judges};
+ghost use Rattle.hpf_map.specs.Subscripts.{all_subscripts, statement_subscripts};
 ghost use Rattle.hpf_map.specs.Uses.{item_use_breaches};
 
 use crate::breaches::Breaches;
 use crate::constants::declare_constants;
 use crate::declare::{common_limit, declare_all, dimensions};
-use crate::directives::test_directive;
+use crate::directives::read_directive;
 use crate::name::{Dimensions, Shape, Space};
 use crate::names::Names;
 use crate::scope::Scope;
 use crate::shapes::MAX_EXTENT;
+use crate::subscripts::Subscripts;
 use crate::uses::test_item;
 use hpf_lex::MapError;
 use hpf_syntax::{Bound, Constant, Declared, Item, Items};
@@ -103,34 +105,50 @@ fn declare_item(
     }
 }
 
-/// Reads a statement behind others: its expressions, and then what it declares.
+/// Reads a statement behind others: its expressions, and then what it declares. Of an ALIGN it gives what the subscripts
+/// say.
 #[tactic(auto, using(crate::proofs::FoundLemmas::least_with_laws), unfolding(crate::specs::Layers::ordered_breaches))]
 fn read_item(
     alloc: Global,
     names: &mut Names,
     item: &Item,
     breaches: &mut Breaches,
-) -> Result<(), AllocError>
+) -> Result<Option<Subscripts>, AllocError>
     ensures names { OnOk result (names.new ≡ names_after names.old (item_tree item.now)) }
+    ensures said { IfOk result (λ s. s ≡ statement_subscripts names.old (item_tree item.now)) }
     ensures breaches { OnOk result (breaches.new ≡ least_with breaches.old
         (ordered_breaches names.old (item_tree item.now))) }
 {
-    test_directive(alloc, &Scope::behind(names), item, breaches)?;
-    declare_item(alloc, names, item, breaches)
+    let said = read_directive(alloc, &Scope::behind(names), item, breaches)?;
+    declare_item(alloc, names, item, breaches)?;
+    Ok(said)
+}
+
+/// What statements declare, and what the subscripts of each say.
+#[derive(Drop)]
+pub(crate) struct Statements {
+    pub names: Names,
+    pub said: Vec<Option<Subscripts>>,
 }
 
 /// Reads statements one after another.
-#[tactic(auto, using(crate::proofs::FoundLemmas::least_with_laws))]
-fn read_items(alloc: Global, items: &[Item], breaches: &mut Breaches) -> Result<Names, AllocError>
-    ensures names { IfOk result (λ names. names ≡ fold names_after [] (map item_tree items.now)) }
+#[tactic(auto, using(crate::proofs::FoundLemmas::least_with_laws), unfolding(crate::specs::Subscripts::all_subscripts))]
+fn read_items(
+    alloc: Global,
+    items: &[Item],
+    breaches: &mut Breaches,
+) -> Result<Statements, AllocError>
+    ensures names { IfOk result (λ s. s.names ≡ fold names_after [] (map item_tree items.now)) }
+    ensures said { IfOk result (λ s. s.said.items ≡ all_subscripts (map item_tree items.now)) }
     ensures breaches { OnOk result (breaches.new ≡ least_with breaches.old
         (threaded names_after ordered_breaches [] (map item_tree items.now))) }
 {
     let mut names = Names::new(alloc);
+    let mut said = Vec::new(alloc);
     for item in items {
-        read_item(alloc, &mut names, item, breaches)?;
+        said.push(read_item(alloc, &mut names, item, breaches)?)?;
     }
-    Ok(names)
+    Ok(Statements { names, said })
 }
 
 /// The names that directives and pipeline lines use.
@@ -144,20 +162,21 @@ fn test_items(names: &Names, items: &[Item], breaches: &mut Breaches)
     }
 }
 
-/// The names that statements declare. The breaches in names, values, shapes and lists are taken in.
+/// What statements declare and what their subscripts say. The breaches in names, values, shapes and lists are taken in.
 #[tactic(auto, using(crate::proofs::FoundLemmas::least_with_laws), unfolding(crate::specs::Layers::names_of, crate::specs::Layers::breaches_in))]
-pub(crate) fn read_names(
+pub(crate) fn read_statements(
     alloc: Global,
     items: &[Item],
     breaches: &mut Breaches,
-) -> Result<Names, AllocError>
-    ensures names { IfOk result (λ names. names ≡ names_of (map item_tree items.now)) }
+) -> Result<Statements, AllocError>
+    ensures names { IfOk result (λ s. s.names ≡ names_of (map item_tree items.now)) }
+    ensures said { IfOk result (λ s. s.said.items ≡ all_subscripts (map item_tree items.now)) }
     ensures breaches { OnOk result (breaches.new ≡ least_with breaches.old
         (breaches_in (map item_tree items.now))) }
 {
-    let names = read_items(alloc, items, breaches)?;
-    test_items(&names, items, breaches);
-    Ok(names)
+    let statements = read_items(alloc, items, breaches)?;
+    test_items(&statements.names, items, breaches);
+    Ok(statements)
 }
 
 /// The names that a text declares, each with what its first declaration makes it. The text is refused where one of its
@@ -168,9 +187,9 @@ pub fn declared_names(alloc: Global, items: &Items) -> Result<Names, MapError>
     ensures { Judges result (judged (map item_tree items.now)) }
 {
     let mut breaches = Breaches::new();
-    let names = read_names(alloc, items.as_slice(), &mut breaches)?;
+    let statements = read_statements(alloc, items.as_slice(), &mut breaches)?;
     match breaches.least() {
-        None => Ok(names),
+        None => Ok(statements.names),
         Some(first) => Err(MapError::Refused(first)),
     }
 }

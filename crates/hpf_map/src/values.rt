@@ -23,7 +23,7 @@ const GREATEST: i64 = 2147483647;
 
 /// A value, where it is in range.
 #[tactic(auto, unfolding(crate::specs::Values::in_range))]
-fn ranged(value: i64) -> Option<i32>
+pub(crate) fn ranged(value: i64) -> Option<i32>
     ensures { result ≡ ranged value }
 {
     if -GREATEST <= value && value <= GREATEST {
@@ -34,7 +34,7 @@ fn ranged(value: i64) -> Option<i32>
 }
 
 /// The value at an operator, or a breach there where it isn't in range.
-fn settle(value: i64, at: At, breaches: &mut Breaches) -> Option<i32>
+pub(crate) fn settle(value: i64, at: At, breaches: &mut Breaches) -> Option<i32>
     ensures value { result ≡ ranged value }
     ensures breaches { breaches.new ≡ least_with breaches.old
         (breach_if (not (in_range value)) Limit at) }
@@ -45,7 +45,7 @@ fn settle(value: i64, at: At, breaches: &mut Breaches) -> Option<i32>
 }
 
 /// The value of a named constant without a shape.
-fn constant(scope: &Scope, word: &Word) -> Option<i32>
+pub(crate) fn constant(scope: &Scope, word: &Word) -> Option<i32>
     ensures { result ≡ word_value scope.now word.now }
 {
     match &scope.find(word)?.meaning {
@@ -56,14 +56,15 @@ fn constant(scope: &Scope, word: &Word) -> Option<i32>
 
 /// What an operator makes of two values.
 #[derive(Clone, Copy, Debug, PartialEq, Eq)]
-enum Operator {
+pub(crate) enum Operator {
     Plus,
     Minus,
     Times,
 }
 
 impl Operator {
-    fn of(self, left: i32, right: i32) -> i64
+    /// Their sum, difference or product.
+    pub(crate) fn of(self, left: i32, right: i32) -> i64
         ensures { result ≡ operation self left right }
     {
         let left = i64::from(left);

@@ -1,0 +1,68 @@
+//! A mapping text that is checked, layer by layer.
+
+ghost use Rattle.std.specs.Prelude.{◌≡◌, map, IfOk, OnOk};
+ghost use Rattle.hpf_syntax.specs.Plain.{item_tree};
+ghost use Rattle.hpf_map.specs.Found.{least_with};
+ghost use Rattle.hpf_map.specs.Layers.{names_of};
+ghost use Rattle.hpf_map.specs.Refusal.{all_breaches};
+ghost use Rattle.hpf_map.specs.Subscripts.{all_subscripts};
+ghost use Rattle.hpf_map.specs.Ways.{ways_of};
+
+use crate::alignments::test_aligns;
+use crate::breaches::Breaches;
+use crate::cycles::test_cycles;
+use crate::distributions::test_distributes;
+use crate::pipeline::test_pipeline;
+use crate::program::Need;
+use crate::sound::sound_names;
+use crate::statements::{Statements, read_statements};
+use crate::ways::{Ways, read_ways};
+use hpf_syntax::Item;
+use std::alloc::{AllocError, Global};
+
+/// What a text declares and what its subscripts say, and how its names are mapped.
+#[derive(Drop)]
+pub(crate) struct Checked {
+    pub statements: Statements,
+    pub ways: Ways,
+}
+
+/// Checks statements layer by layer, and takes the breaches of all of them in.
+#[tactic(auto, using(crate::proofs::FoundLemmas::least_with_laws), unfolding(crate::specs::Refusal::all_breaches))]
+pub(crate) fn check_items(
+    alloc: Global,
+    items: &[Item],
+    need: Need,
+    breaches: &mut Breaches,
+) -> Result<Checked, AllocError>
+    ensures names { IfOk result (λ c. c.statements.names ≡ names_of (map item_tree items.now)) }
+    ensures said { IfOk result (λ c. c.statements.said.items ≡ all_subscripts (map item_tree items.now)) }
+    ensures ways { IfOk result (λ c. c.ways ≡ ways_of (names_of (map item_tree items.now)) (map item_tree items.now)) }
+    ensures breaches { OnOk result (breaches.new ≡ least_with breaches.old
+        (all_breaches need (map item_tree items.now))) }
+{
+    sound_names();
+    let statements = read_statements(alloc, items, breaches)?;
+    test_aligns(
+        alloc,
+        &statements.names,
+        items,
+        statements.said.as_slice(),
+        breaches,
+    )?;
+    test_distributes(&statements.names, items, breaches);
+    let mapped = read_ways(alloc, &statements.names, items, breaches)?;
+    test_cycles(alloc, &mapped.ways, mapped.first.as_slice(), breaches)?;
+    test_pipeline(
+        alloc,
+        need,
+        &statements.names,
+        &mapped.ways,
+        items,
+        breaches,
+    )?;
+    Ok(Checked {
+        statements,
+        ways: mapped.ways,
+    })
+}
