@@ -1,0 +1,75 @@
+//! What comes of a text.
+
+use crate::elements::owners_in;
+use anyhow::{Context, Result};
+use hpf_lex::{MapError, tokens};
+use hpf_map::{Need, Program, declared_names, resolve};
+use hpf_syntax::{Items, parse};
+use std::alloc::{AllocError, Global};
+
+/// What is asked of a text.
+#[derive(Clone, Copy, Debug)]
+pub enum Asked {
+    /// Whether it declares its names well.
+    Names,
+    /// Whether it has a program.
+    Program(Need),
+    /// The owners of the elements of an array, whose name follows the text behind `~`.
+    Owners,
+}
+
+/// The answer to what is asked of a text.
+pub fn answer(alloc: Global, asked: Asked, text: &str) -> Result<String> {
+    match asked {
+        Asked::Names => Ok(judged(alloc, judge_names(alloc, text))?),
+        Asked::Program(need) => Ok(judged(alloc, judge(alloc, text, need))?),
+        Asked::Owners => {
+            let (text, word) = text.split_once('~').context("a row without a word")?;
+            owners(alloc, text, word)
+        }
+    }
+}
+
+/// The owners of the elements of an array of a text, or its refusal.
+pub fn owners(alloc: Global, text: &str, word: &str) -> Result<String> {
+    match program(alloc, text, Need::Mapping) {
+        Ok(program) => owners_in(alloc, &program, word),
+        Err(error) => Ok(judged(alloc, Err(error))?),
+    }
+}
+
+/// The program of a text.
+pub fn program(alloc: Global, text: &str, need: Need) -> Result<Program, MapError> {
+    let items = items(alloc, text)?;
+    resolve(alloc, &items, need)
+}
+
+/// The statements of a text.
+fn items(alloc: Global, text: &str) -> Result<Items, MapError> {
+    let tokens = tokens(alloc, text.as_bytes())?;
+    parse(alloc, &tokens)
+}
+
+/// Asks for the names of a text.
+fn judge_names(alloc: Global, text: &str) -> Result<(), MapError> {
+    let items = items(alloc, text)?;
+    let _ = declared_names(alloc, &items)?;
+    Ok(())
+}
+
+/// Asks for the program of a text.
+pub fn judge(alloc: Global, text: &str, need: Need) -> Result<(), MapError> {
+    let _ = program(alloc, text, need)?;
+    Ok(())
+}
+
+/// `accepted`, or the refusal.
+pub fn judged(alloc: Global, answer: Result<(), MapError>) -> Result<String, AllocError> {
+    match answer {
+        Ok(()) => String::from_str(alloc, "accepted"),
+        Err(MapError::Refused(r)) => {
+            format!(in alloc; "refused {} at {}:{}", r.code, r.line, r.column)
+        }
+        Err(MapError::Memory(error)) => Err(error),
+    }
+}

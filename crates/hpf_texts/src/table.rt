@@ -1,0 +1,82 @@
+//! The tables, and how many of their rows are as they should be.
+
+use crate::answer::{Asked, answer};
+use crate::text::text_of;
+use anyhow::{Context, Result};
+use hpf_map::Need;
+use hpf_vectors::constraints::{DECLARATIONS, DIRECTIVES, NOT_BUILT, OWNERS, PIPELINES};
+use std::alloc::Global;
+
+/// A table: what it is called, what is asked of its texts, and its rows.
+#[derive(Clone, Copy, Debug)]
+pub struct Table {
+    pub title: &'static str,
+    asked: Asked,
+    rows: &'static str,
+}
+
+/// All tables.
+pub const TABLES: &[Table] = &[
+    Table {
+        title: "declarations",
+        asked: Asked::Names,
+        rows: DECLARATIONS,
+    },
+    Table {
+        title: "directives",
+        asked: Asked::Program(Need::Mapping),
+        rows: DIRECTIVES,
+    },
+    Table {
+        title: "pipelines",
+        asked: Asked::Program(Need::Pipeline),
+        rows: PIPELINES,
+    },
+    Table {
+        title: "forms not built, for a mapping",
+        asked: Asked::Program(Need::Mapping),
+        rows: NOT_BUILT,
+    },
+    Table {
+        title: "forms not built, for a pipeline",
+        asked: Asked::Program(Need::Pipeline),
+        rows: NOT_BUILT,
+    },
+    Table {
+        title: "owners",
+        asked: Asked::Owners,
+        rows: OWNERS,
+    },
+];
+
+/// Adds how many rows of a table are as they should be, and each row that isn't.
+pub fn push_table(alloc: Global, table: &Table, to: &mut String) -> Result<()> {
+    let mut count = 0usize;
+    let mut right = 0usize;
+    let mut others = String::new(alloc);
+    for row in table.rows.split_terminator('|') {
+        count = count.saturating_add(1);
+        if is_right(alloc, table.asked, row, &mut others)? {
+            right = right.saturating_add(1);
+        }
+    }
+    writeln!(
+        to,
+        "{}: {right} of {count} rows as they should be",
+        table.title
+    )?;
+    to.push_str(&others)?;
+    Ok(())
+}
+
+/// Whether a row is as it should be. One that isn't is added.
+fn is_right(alloc: Global, asked: Asked, row: &str, others: &mut String) -> Result<bool> {
+    let (question, expected) = row.rsplit_once('~').context("a row without an answer")?;
+    let text = text_of(alloc, question)?;
+    let came = answer(alloc, asked, &text)?;
+    let right = came.as_str() == expected;
+    if !right {
+        writeln!(others, "{question:?}: {came}, and not {expected}")?;
+    }
+    Ok(right)
+}
