@@ -1,21 +1,25 @@
 //! Resolves the worked texts of the tables, and some texts that are made, and prints for each table how many of its rows
-//! are as they should be, and each row that isn't:
+//! are as they should be, and each row that isn't. Then it tells what processors own or hold under mappings that are made
+//! by hand, each element with its place:
 //!
 //! ```text
 //! declarations: 147 of 148 rows as they should be
 //! "INTEGER A, A": accepted, and not refused 21 at 1:12
 //! chain of 1023 arrays, owners of N1: 0 0 1 1 2 2 3 3
+//! A(10), CYCLIC(2): 2 owns 2: 5@0 6@1
 //! ```
 #![tactic(auto)]
 
 mod answer;
 mod elements;
 mod made;
+mod parts;
 mod table;
 mod text;
 
 use anyhow::{Context, Result};
 use made::push_made;
+use parts::push_parts;
 use std::alloc::Global;
 use table::{TABLES, push_table};
 
@@ -26,12 +30,13 @@ fn main(rt: HostRuntime) -> Result<()> {
     Ok(())
 }
 
-/// What came of the rows of each table, and of the texts that are made.
+/// What came of the rows of each table, of the texts that are made, and of the mappings.
 fn answers(alloc: Global) -> Result<String> {
     let mut answers = String::new(alloc);
     for table in TABLES {
         push_table(alloc, table, &mut answers).context(table.title)?;
     }
     push_made(alloc, &mut answers)?;
+    push_parts(alloc, &mut answers)?;
     Ok(answers)
 }
