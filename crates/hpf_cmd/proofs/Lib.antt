@@ -1,4 +1,5 @@
 pub mod Weights
+pub mod Dealt
 pub mod Grown
 pub mod SoFar
 pub mod Stopped
@@ -6,7 +7,4 @@ pub mod Answered
 pub mod Verdicts
 pub mod Completed
 pub mod MarkLinesLemmas
-pub mod OneForm
-pub mod Staged
-pub mod Placed
-pub mod Formed
+pub mod Forms

@@ -1,7 +1,6 @@
 pub mod Words
-pub mod Form
+pub mod FirstForm
 pub mod Statuses
-pub mod CountsText
 pub mod Request
 pub mod Order
 pub mod Outside

@@ -2,11 +2,10 @@
 //! lines that it prints.
 #![tactic(auto)]
 
-mod check;
 mod command;
 mod consumer;
 mod exit;
-mod form;
+mod first_form;
 mod laws;
 mod line;
 mod map;
