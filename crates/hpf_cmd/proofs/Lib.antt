@@ -1,5 +1,4 @@
 pub mod Weights
-pub mod Dealt
 pub mod Grown
 pub mod SoFar
 pub mod Stopped
@@ -7,4 +6,7 @@ pub mod Answered
 pub mod Verdicts
 pub mod Completed
 pub mod MarkLinesLemmas
-pub mod Forms
+pub mod OneForm
+pub mod Staged
+pub mod Placed
+pub mod Formed

@@ -1,8 +1,8 @@
 -- The order of tests comes to one verdict.
-use Rattle.std.proofs.Common.{◌≡◌, ◌≢◌, ◌+◌, ℕ, List, ◌∷◌, take, Option, Some, None, Result, Ok, Err, IfOk, IfErr, inl, inr, refl, sym, ap, ◌∙◌, subst}
+use Rattle.std.proofs.Common.{◌≡◌, ◌≢◌, ◌+◌, ◌<◌, ◌≤◌, ℕ, arith, List, take, Option, Some, None, Result, Ok, Err, IfOk, IfErr, inl, inr, refl, sym, ap, ◌∙◌, subst}
 use Rattle.hpf_io.specs.Files.{Files, HasFront}
 use Rattle.hpf_lex.specs.declared.refusal.MapError.{MapError}
-use Rattle.hpf_lex.specs.declared.refusal.MapError.TheVariants.{Refused, Memory}
+use Rattle.hpf_lex.specs.declared.refusal.MapError.TheVariants as answer
 use Rattle.hpf_lex.specs.declared.refusal.MapRefusal.{MapRefusal}
 use Rattle.hpf_lex.specs.declared.token.Token.{Token}
 use Rattle.hpf_lex.specs.Statement.{max_text}
@@ -15,24 +15,31 @@ use Rattle.hpf_cmd.specs.declared.status.Status.{Status}
 use Rattle.hpf_cmd.specs.declared.status.Status.TheVariants as status
 use Rattle.hpf_cmd.specs.declared.words.Action.{Action}
 use Rattle.hpf_cmd.specs.declared.words.Action.TheVariants as action
-use Rattle.hpf_cmd.specs.FirstForm.{Extents, IsFirstForm}
-use Rattle.hpf_cmd.specs.Order.{Verdict, Denied, Granted, Judges, Faulty, ToShow, Unbuilt, ToRun, Order, NoAction, NotBuilt, OfText, IsLoaded, not_built}
-use Rattle.hpf_cmd.specs.Request.{Show, Run, request_tree}
+use Rattle.hpf_frame.specs.FrameFile.{elements}
+use Rattle.hpf_map.specs.declared.program.Counts.{Counts}
+use Rattle.hpf_map.specs.declared.program.Need.{Need}
+use Rattle.hpf_map.specs.declared.program.Need.TheVariants as needed
+use Rattle.hpf_map.specs.Built.{not_built}
+use Rattle.hpf_map.specs.Program.{PlainProgram, IsProgram, counts_of}
+use Rattle.hpf_map.specs.Refusal.{refusal, Resolves}
+use Rattle.hpf_cmd.specs.Form.{Form, IsFormOf}
+use Rattle.hpf_cmd.specs.Order.{Verdict, Denied, Granted, Judges, Faulty, ToShow, Refused, TooLong, ToCheck, ToRun, Order, NoAction, NotBuilt, OfText, IsLoaded, need_of, most_elements}
+use Rattle.hpf_cmd.specs.Request.{Show, Check, Run, request_tree}
 use Rattle.hpf_cmd.specs.declared.request.Request.{Request}
 use Rattle.hpf_cmd.specs.Statuses.{refusal_status, text_status, IsOfText, IsOfDeed}
 use Rattle.hpf_words.specs.declared.asked.Asked.{Asked}
 use Rattle.hpf_words.specs.Words.{AsksFor}
 use Rattle.hpf_cmd.specs.Words.{Asks, built}
-use Rattle.hpf_cmd.proofs.Forms.{one_form}
+use Rattle.hpf_cmd.proofs.OneForm.{OnlyIndices, one_form}
 
 -- a text that was not read is refused for its fault
 pub faulty : (asked : Action) (text : List ℕ) (e : MapError) (end : Status) → end ≡ text_status e → IfRefused {A = List Item} (Err e) (IsFaultOf text) → end ≢ status.OutOfMemory → Judges asked text (Denied end)
-faulty asked text (Refused r) end is fault memory = Faulty r fault (ap Denied is)
-faulty asked text (Memory m) end is fault memory = absurd (memory is)
+faulty asked text (answer.Refused r) end is fault memory = Faulty r fault (ap Denied is)
+faulty asked text (answer.Memory m) end is fault memory = absurd (memory is)
 
 pub of_text : (e : MapError) (end : Status) → end ≡ text_status e → IsOfText end
-of_text (Refused r) end is = subst IsOfText (sym is) tt
-of_text (Memory m) end is = subst IsOfText (sym is) tt
+of_text (answer.Refused r) end is = subst IsOfText (sym is) tt
+of_text (answer.Memory m) end is = subst IsOfText (sym is) tt
 
 -- ---- one verdict
 
@@ -44,6 +51,7 @@ pub record ReadOnce : Type 0 where
   pub items : (tokens : List Token) (a b : List ItemTree) → Spells tokens a → Spells tokens b → a ≡ b
   pub no_items : (tokens : List Token) (items : List ItemTree) (r : MapRefusal) → SpellsShortly tokens items → IsRefusalOf tokens r → ⊥
   pub refusal : (tokens : List Token) (r t : MapRefusal) → IsRefusalOf tokens r → IsRefusalOf tokens t → r ≡ t
+  pub order : OnlyIndices
 
 says_once : ReadOnce → (text : List ℕ) (a b : List ItemTree) → Says text a → Says text b → a ≡ b
 says_once once text a b f g =
@@ -63,27 +71,83 @@ fault_once once text r t (inr f) (inl g) = absurd (once.no_tokens text f.0 t f.1
 fault_once once text r t (inr f) (inr g) =
     once.refusal g.0 r t (subst (λ (ts : List Token). IsRefusalOf ts r) (once.tokens text f.0 g.0 f.1 g.1) f.2) g.2
 
+-- the verdicts of one text, once its items are known: what isn't a fault comes to one verdict
+data Meant (asked : Action) (items : List ItemTree) (verdict : Verdict) : Type 0 where
+  Shown : asked ≡ action.Show → verdict ≡ Granted (Show items) → Meant asked items verdict
+  Broken : (need : Need) → need_of asked ≡ Some need → (r : MapRefusal) → refusal need items ≡ Some r → verdict ≡ Denied (refusal_status r) → Meant asked items verdict
+  Long : asked ≡ action.Run → refusal needed.Pipeline items ≡ None → (form : Form) → IsFormOf items form → most_elements < elements form.extents → verdict ≡ Denied (refusal_status not_built) → Meant asked items verdict
+  Told : asked ≡ action.Check → refusal needed.Mapping items ≡ None → verdict ≡ Granted (Check (counts_of items)) → Meant asked items verdict
+  Ran : asked ≡ action.Run → refusal needed.Pipeline items ≡ None → (form : Form) → IsFormOf items form → elements form.extents ≤ most_elements → verdict ≡ Granted (Run form) → Meant asked items verdict
+
+-- a text is faulty, or says something and means something
+data Comes (asked : Action) (text : List ℕ) (verdict : Verdict) : Type 0 where
+  Wrong : (r : MapRefusal) → IsFaultOf text r → verdict ≡ Denied (refusal_status r) → Comes asked text verdict
+  Right : (items : List ItemTree) → Says text items → Meant asked items verdict → Comes asked text verdict
+
+comes : (asked : Action) (text : List ℕ) (v : Verdict) → Judges asked text v → Comes asked text v
+comes asked text v (Faulty r f e) = Wrong r f e
+comes asked text v (ToShow show items says e) = Right items says (Shown show e)
+comes asked text v (Refused need needs items says r is e) = Right items says (Broken need needs r is e)
+comes asked text v (TooLong run items says none form is long e) = Right items says (Long run none form is long e)
+comes asked text v (ToCheck check items says none e) = Right items says (Told check none e)
+comes asked text v (ToRun run items says none form is few e) = Right items says (Ran run none form is few e)
+
+-- a refusal for what an action needs, where there is none
+never_refused : (asked : Action) (items : List ItemTree) (need other : Need) (r : MapRefusal) → need_of asked ≡ Some need → need_of asked ≡ Some other → refusal need items ≡ Some r → refusal other items ≡ None → ⊥
+never_refused asked items need other r needs wants is none =
+    let both : Some need ≡ Some other = sym needs ∙ wants in
+    let same : need ≡ other = cc in
+    let no : Some r ≡ None = sym is ∙ (ap (λ (n : Need). refusal n items) same ∙ none) in
+    absurd cc
+
+one_refusal : (asked : Action) (items : List ItemTree) (need other : Need) (r t : MapRefusal) → need_of asked ≡ Some need → need_of asked ≡ Some other → refusal need items ≡ Some r → refusal other items ≡ Some t → r ≡ t
+one_refusal asked items need other r t needs wants is at =
+    let both : Some need ≡ Some other = sym needs ∙ wants in
+    let same : need ≡ other = cc in
+    let said : Some r ≡ Some t = sym is ∙ (ap (λ (n : Need). refusal n items) same ∙ at) in
+    cc
+
+never_long : OnlyIndices → (items : List ItemTree) (f g : Form) → IsFormOf items f → IsFormOf items g → most_elements < elements f.extents → elements g.extents ≤ most_elements → ⊥
+never_long only items f g is at long few =
+    let same : elements f.extents ≡ elements g.extents = ap (λ (z : Form). elements z.extents) (one_form only items f g is at) in
+    absurd (omega (arith, same, long, few))
+
+one_meaning : OnlyIndices → (asked : Action) (items : List ItemTree) (v w : Verdict) → Meant asked items v → Meant asked items w → v ≡ w
+one_meaning only asked items v w (Shown a e) (Shown b h) = e ∙ sym h
+one_meaning only asked items v w (Shown a e) (Broken need b r is h) = absurd (let no : None ≡ Some need = sym (ap need_of a) ∙ b in cc)
+one_meaning only asked items v w (Shown a e) (Long b none form is long h) = absurd cc
+one_meaning only asked items v w (Shown a e) (Told b none h) = absurd cc
+one_meaning only asked items v w (Shown a e) (Ran b none form is few h) = absurd cc
+one_meaning only asked items v w (Broken need a r is e) (Shown b h) = absurd (let no : None ≡ Some need = sym (ap need_of b) ∙ a in cc)
+one_meaning only asked items v w (Broken need a r is e) (Broken other b t at h) = e ∙ (ap (λ (z : MapRefusal). Denied (refusal_status z)) (one_refusal asked items need other r t a b is at) ∙ sym h)
+one_meaning only asked items v w (Broken need a r is e) (Long b none form at long h) = absurd (never_refused asked items need needed.Pipeline r a (ap need_of b) is none)
+one_meaning only asked items v w (Broken need a r is e) (Told b none h) = absurd (never_refused asked items need needed.Mapping r a (ap need_of b) is none)
+one_meaning only asked items v w (Broken need a r is e) (Ran b none form at few h) = absurd (never_refused asked items need needed.Pipeline r a (ap need_of b) is none)
+one_meaning only asked items v w (Long a none form is long e) (Shown b h) = absurd cc
+one_meaning only asked items v w (Long a none form is long e) (Broken need b r at h) = absurd (never_refused asked items need needed.Pipeline r b (ap need_of a) at none)
+one_meaning only asked items v w (Long a none form is long e) (Long b none' form' at long' h) = e ∙ sym h
+one_meaning only asked items v w (Long a none form is long e) (Told b none' h) = absurd cc
+one_meaning only asked items v w (Long a none form is long e) (Ran b none' form' at few h) = absurd (never_long only items form form' is at long few)
+one_meaning only asked items v w (Told a none e) (Shown b h) = absurd cc
+one_meaning only asked items v w (Told a none e) (Broken need b r at h) = absurd (never_refused asked items need needed.Mapping r b (ap need_of a) at none)
+one_meaning only asked items v w (Told a none e) (Long b none' form at long h) = absurd cc
+one_meaning only asked items v w (Told a none e) (Told b none' h) = e ∙ sym h
+one_meaning only asked items v w (Told a none e) (Ran b none' form at few h) = absurd cc
+one_meaning only asked items v w (Ran a none form is few e) (Shown b h) = absurd cc
+one_meaning only asked items v w (Ran a none form is few e) (Broken need b r at h) = absurd (never_refused asked items need needed.Pipeline r b (ap need_of a) at none)
+one_meaning only asked items v w (Ran a none form is few e) (Long b none' form' at long h) = absurd (never_long only items form' form at is long few)
+one_meaning only asked items v w (Ran a none form is few e) (Told b none' h) = absurd cc
+one_meaning only asked items v w (Ran a none form is few e) (Ran b none' form' at few' h) = e ∙ (ap (λ (z : Form). Granted (Run z)) (one_form only items form form' is at) ∙ sym h)
+
+one_coming : ReadOnce → (asked : Action) (text : List ℕ) (v w : Verdict) → Comes asked text v → Comes asked text w → v ≡ w
+one_coming once asked text v w (Wrong r f e) (Wrong t g h) = e ∙ (ap (λ (z : MapRefusal). Denied (refusal_status z)) (fault_once once text r t f g) ∙ sym h)
+one_coming once asked text v w (Wrong r f e) (Right items says means) = absurd (never_both once text items r says f)
+one_coming once asked text v w (Right items says means) (Wrong r f e) = absurd (never_both once text items r says f)
+one_coming once asked text v w (Right items says means) (Right others says' means') =
+    one_meaning once.order asked others v w (subst (λ (z : List ItemTree). Meant asked z v) (says_once once text items others says says') means) means'
+
 one_judgement : ReadOnce → (asked : Action) (text : List ℕ) (v w : Verdict) → Judges asked text v → Judges asked text w → v ≡ w
-one_judgement once asked text v w (Faulty r f e) (Faulty t g h) = e ∙ (ap (λ (z : MapRefusal). Denied (refusal_status z)) (fault_once once text r t f g) ∙ sym h)
-one_judgement once asked text v w (Faulty r f e) (ToShow show items says h) = absurd (never_both once text items r says f)
-one_judgement once asked text v w (Faulty r f e) (Unbuilt run items says none h) = absurd (never_both once text items r says f)
-one_judgement once asked text v w (Faulty r f e) (ToRun run items says form is h) = absurd (never_both once text items r says f)
-one_judgement once asked text v w (ToShow show items says e) (Faulty r f h) = absurd (never_both once text items r says f)
-one_judgement once asked text v w (ToShow show items says e) (ToShow show' others says' h) = e ∙ (ap (λ (z : List ItemTree). Granted (Show z)) (says_once once text items others says says') ∙ sym h)
-one_judgement once asked text v w (ToShow show items says e) (Unbuilt run others says' none h) = absurd cc
-one_judgement once asked text v w (ToShow show items says e) (ToRun run others says' form is h) = absurd cc
-one_judgement once asked text v w (Unbuilt run items says none e) (Faulty r f h) = absurd (never_both once text items r says f)
-one_judgement once asked text v w (Unbuilt run items says none e) (ToShow show others says' h) = absurd cc
-one_judgement once asked text v w (Unbuilt run items says none e) (Unbuilt run' others says' none' h) = e ∙ sym h
-one_judgement once asked text v w (Unbuilt run items says none e) (ToRun run' others says' form is h) =
-    absurd (none form (subst (λ (z : List ItemTree). IsFirstForm z form) (says_once once text others items says' says) is))
-one_judgement once asked text v w (ToRun run items says form is e) (Faulty r f h) = absurd (never_both once text items r says f)
-one_judgement once asked text v w (ToRun run items says form is e) (ToShow show others says' h) = absurd cc
-one_judgement once asked text v w (ToRun run items says form is e) (Unbuilt run' others says' none h) =
-    absurd (none form (subst (λ (z : List ItemTree). IsFirstForm z form) (says_once once text items others says says') is))
-one_judgement once asked text v w (ToRun run items says form is e) (ToRun run' others says' form' is' h) =
-    let same = says_once once text items others says says' in
-    e ∙ (ap (λ (z : Extents). Granted (Run z)) (one_form others form form' (subst (λ (z : List ItemTree). IsFirstForm z form) same is) is') ∙ sym h)
+one_judgement once asked text v w a b = one_coming once asked text v w (comes asked text v a) (comes asked text w b)
 
 -- words ask for one thing, built or not
 abbrev pub OneLine : Type 0
@@ -132,8 +196,34 @@ one_verdict one once words told all v w is (OfText a m text asks loaded judged) 
 pub denied_by : {T : Type 0} (P : Status → Type 0) (r : Result T Status) (end : Status) → r ≡ Err end → P end → IfErr r P
 denied_by P r end is p = subst (λ (z : _). IfErr z P) (sym is) p
 
-pub unbuilt : (asked : Action) (text : List ℕ) (items : List ItemTree) (end : Status) → asked ≡ action.Run → Says text items → ((form : Extents) → ¬ IsFirstForm items form) → end ≡ refusal_status not_built → Judges asked text (Denied end)
-unbuilt asked text items end run says none is = Unbuilt run items says none (ap Denied is)
+-- a text that is refused for what it means
+pub unresolved : (asked : Action) (need : Need) (items : List ItemTree) (e : MapError) (end : Status) → need_of asked ≡ Some need → end ≡ text_status e → Resolves (Err e) need items → end ≢ status.OutOfMemory
+    → (text : List ℕ) → Says text items → Judges asked text (Denied end)
+unresolved asked need items (answer.Refused r) end needs is why memory text says = Refused need needs items says r why (ap Denied is)
+unresolved asked need items (answer.Memory m) end needs is why memory text says = absurd (memory is)
+
+pub told : (items : List ItemTree) (counts : Counts) (program : PlainProgram) → refusal needed.Mapping items ≡ None → IsProgram items program → counts ≡ program.counts
+    → (text : List ℕ) → Says text items → Judges action.Check text (Granted (Check counts))
+told items counts program none is same text says = ToCheck refl items says none (ap (λ (z : Counts). Granted (Check z)) (same ∙ is.counts))
+
+pub too_long : (items : List ItemTree) (form : Form) (end : Status) → refusal needed.Pipeline items ≡ None → IsFormOf items form → most_elements < elements form.extents → end ≡ refusal_status not_built
+    → (text : List ℕ) → Says text items → Judges action.Run text (Denied end)
+too_long items form end none is long why text says = TooLong refl items says none form is long (ap Denied why)
+
+pub ran : (items : List ItemTree) (form : Form) → refusal needed.Pipeline items ≡ None → IsFormOf items form → elements form.extents ≤ most_elements
+    → (text : List ℕ) → Says text items → Judges action.Run text (Granted (Run form))
+ran items form none is few text says = ToRun refl items says none form is few refl
+
+-- what statements come to, once a text says them
+pub granted_as : (asked done : Action) (text : List ℕ) (items : List ItemTree) (r : Result Request Status) → asked ≡ done → Says text items
+    → IfOk r (λ request. (text : List ℕ) → Says text items → Judges done text (Granted (request_tree request))) → IfOk r (λ request. Judges asked text (Granted (request_tree request)))
+granted_as asked done text items (Ok request) is says judged = subst (λ (z : Action). Judges z text (Granted (request_tree request))) (sym is) (judged text says)
+granted_as asked done text items (Err end) is says judged = tt
+
+pub denied_as : (asked done : Action) (text : List ℕ) (items : List ItemTree) (r : Result Request Status) → asked ≡ done → Says text items
+    → IfErr r (λ end. end ≢ status.OutOfMemory → (text : List ℕ) → Says text items → Judges done text (Denied end)) → IfErr r (λ end. end ≢ status.OutOfMemory → Judges asked text (Denied end))
+denied_as asked done text items (Ok request) is says judged = tt
+denied_as asked done text items (Err end) is says judged = λ memory. subst (λ (z : Action). Judges z text (Denied end)) (sym is) (judged memory text says)
 
 pub loaded_as : (told : Option Files) (name text now : List ℕ) → now ≡ text → ((all : Files) → told ≡ Some all → HasFront all name (max_text + 1) text) → IsLoaded told name now
 loaded_as told name text now same front = λ all is. subst (λ (z : List ℕ). HasFront all name (max_text + 1) z) (sym same) (front all is)

@@ -1,6 +1,7 @@
 pub mod Words
-pub mod FirstForm
+pub mod Form
 pub mod Statuses
+pub mod CountsText
 pub mod Request
 pub mod Order
 pub mod Outside

@@ -1,6 +1,5 @@
 -- The lines of the marks of all processors.
 use Rattle.std.specs.Prelude.{ℕ, ◌+◌, ℤ, List, [], ◌∷◌, ◌++◌, length, map}
-use Rattle.std.specs.List.{range_with_len}
 use Rattle.hpf_cmd.specs.MarkLine.{mark_line}
 use Rattle.hpf_cmd.specs.Parts.{Holding, holding_of}
 
@@ -9,6 +8,6 @@ abbrev pub lines_of : ℕ → List Holding → List ℕ
 lines_of proc [] = []
 lines_of proc (part ∷ parts) = mark_line 0 proc (length part.positions) part.mark ++ lines_of (proc + 1) parts
 
--- the lines of all processors over these frames
-abbrev pub mark_lines : ℕ → ℕ → List (List ℤ) → List ℕ
-mark_lines u n frames = lines_of 0 (map (holding_of u n frames) (range_with_len 0 n))
+-- the lines of all processors, which own the elements at these places, over these frames
+abbrev pub mark_lines : List (List ℕ) → List (List ℤ) → List ℕ
+mark_lines lists frames = lines_of 0 (map (holding_of frames) lists)

@@ -1,31 +1,36 @@
 -- What is asked for, together with what its map means (this project defines it).
-use Rattle.std.specs.Prelude.{◌≡◌, ◌≤◌, ℕ, ℤ, List, [], ◌∷◌, map, Option, Some}
-use Rattle.hpf_dist.specs.Axis.{AreProcs}
-use Rattle.hpf_frame.specs.FrameFile.{IsFile}
+use Rattle.std.specs.Prelude.{◌≡◌, ℕ, ℤ, List, [], ◌∷◌, map, Option, Some}
+use Rattle.hpf_frame.specs.FrameFile.{IsFile, elements}
+use Rattle.hpf_map.specs.declared.program.Counts.{Counts}
 use Rattle.hpf_syntax.specs.Plain.{ItemTree, item_tree}
 use Rattle.hpf_syntax.specs.Canonical.{canonical}
 use Rattle.hpf_syntax.specs.Parsed.{IsParsed}
 use Rattle.hpf_cmd.specs.declared.request.Request.{Request}
 use Rattle.hpf_cmd.specs.declared.request.Request.TheVariants as request
-use Rattle.hpf_cmd.specs.FirstForm.{Extents}
+use Rattle.hpf_cmd.specs.CountsText.{counts_text}
 use Rattle.hpf_cmd.specs.Flow.{Flow, whole}
+use Rattle.hpf_cmd.specs.Form.{Form}
 use Rattle.hpf_cmd.specs.MarkLines.{mark_lines}
+use Rattle.hpf_cmd.specs.Parts.{HaveTaken, places}
 use Rattle.hpf_cmd.specs.Pipeline.{one_stage, run_flow}
 
--- the statements whose canonical text is to be shown, or the form whose frames are to run
+-- the statements whose canonical text is to be shown, the counts that are to be told, or the form whose frames are to run
 pub data RequestTree : Type 0 where
   Show : List ItemTree → RequestTree
-  Run : Extents → RequestTree
+  Check : Counts → RequestTree
+  Run : Form → RequestTree
 
 -- what a request of the program asks for
 abbrev pub request_tree : Request → RequestTree
 request_tree (request.Show items) = Show (map item_tree items)
-request_tree (request.Run form) = Run (record { elements = form.elements; procs = form.procs })
+request_tree (request.Check counts) = Check counts
+request_tree (request.Run form) = Run (record { extents = form.extents.items; parts = places form.parts.items })
 
--- the request can be carried out: statements are those of some text, and a form is within its limits
+-- the request can be carried out: statements are those of some text, and a form is within its limits and has no mark yet
 abbrev pub IsMet : Request → Type 0
 IsMet (request.Show items) = IsParsed (map item_tree items)
-IsMet (request.Run form) = (1 ≤ form.elements) × (form.elements ≤ 65536) × AreProcs form.procs
+IsMet (request.Check counts) = Unit {0}
+IsMet (request.Run form) = HaveTaken form.extents.items form.parts.items [] × (form.elements ≡ elements form.extents.items)
 
 -- what is done: one text is given to out, and lines behind it to notes; or frames are read, and something is given for each
 pub data Deed : Type 0 where
@@ -34,7 +39,8 @@ pub data Deed : Type 0 where
 
 abbrev pub deed_of : RequestTree → Deed
 deed_of (Show items) = Print (canonical items) []
-deed_of (Run form) = Stream (run_flow (one_stage (form.elements ∷ [])) (mark_lines form.elements form.procs))
+deed_of (Check counts) = Print (counts_text counts) []
+deed_of (Run form) = Stream (run_flow (one_stage form.extents) (mark_lines form.parts))
 
 -- it reads frames
 abbrev pub ReadsFrames : Deed → Type 0

@@ -8,6 +8,7 @@ use Rattle.hpf_cmd.specs.declared.words.Action.TheVariants as action
 
 -- the action that is asked for, where it is built
 abbrev pub built : Asked → Option Action
+built asked.Check = Some action.Check
 built asked.Show = Some action.Show
 built (asked.Run workers) = Some action.Run
 built _ = None

@@ -20,8 +20,8 @@ use crate::status::Status;
 use hpf_io::{Loader, Sink, Source};
 use std::alloc::Global;
 
-/// Does what the words ask for, on one thread. `show MAP` writes the canonical text of the map to `out`. `run MAP` reads
-/// frames from `frames`, writes the frames that leave the pipeline of the map to `out`, and then the marks of its
+/// Does what the words ask for, on one thread. `show MAP` writes the canonical text of the map to `out`. `check MAP`
+/// writes how much the map declares. `run MAP` reads frames from `frames`, writes the frames that leave the pipeline of the map to `out`, and then the marks of its
 /// processors to `notes`. Always returns.
 pub fn command_one<L: Loader, S: Source, K: Sink, N: Sink>(
     alloc: Global,
@@ -83,7 +83,7 @@ pub fn command_one<L: Loader, S: Source, K: Sink, N: Sink>(
 {
     one_verdict();
     match request_of(alloc, words, texts) {
-        Ok(request) => perform(alloc, &request, frames, out, notes),
+        Ok(request) => perform(alloc, request, frames, out, notes),
         Err(status) => status,
     }
 }

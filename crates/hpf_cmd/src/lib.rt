@@ -2,10 +2,11 @@
 //! lines that it prints.
 #![tactic(auto)]
 
+mod check;
 mod command;
 mod consumer;
 mod exit;
-mod first_form;
+mod form;
 mod laws;
 mod line;
 mod map;

@@ -10,6 +10,7 @@ ghost use Rattle.hpf_cmd.specs.Request.{IsMet, request_tree, deed_of};
 ghost use Rattle.hpf_cmd.specs.Shows.{Shows};
 ghost use Rattle.hpf_cmd.specs.Statuses.{IsOfDeed};
 
+use crate::check::tell_counts;
 use crate::print::print_text;
 use crate::request::Request;
 use crate::run::run_form;
@@ -21,21 +22,22 @@ use std::alloc::Global;
 /// Does what is asked for: prints a text to `out`, or runs frames from `frames` to `out` and tells their marks to `notes`.
 pub(crate) fn perform<S: Source, K: Sink, N: Sink>(
     alloc: Global,
-    request: &Request,
+    request: Request,
     frames: &mut S,
     out: &mut K,
     notes: &mut N,
 ) -> Status
-    requires { IsMet request.now }
+    requires { IsMet request }
     ensures done { result ≢ Status.OutOfMemory → Does (source S.left S.faults) (sink K.given K.flushed K.faults K.takes)
         (sink N.given N.flushed N.faults N.takes)
-        frames.old frames.new out.old out.new notes.old notes.new (deed_of (request_tree request.now)) result }
+        frames.old frames.new out.old out.new notes.old notes.new (deed_of (request_tree request)) result }
     ensures kinds { IsOfDeed result }
     ensures memory { result ≡ Status.OutOfMemory → Untouched frames.old frames.new out.old out.new notes.old notes.new }
 {
     match request {
-        Request::Show(items) => show(alloc, items, out),
-        Request::Run(form) => run_form(alloc, *form, frames, out, notes),
+        Request::Show(items) => show(alloc, &items, out),
+        Request::Check(counts) => tell_counts(counts, out),
+        Request::Run(form) => run_form(alloc, form, frames, out, notes),
     }
 }
 

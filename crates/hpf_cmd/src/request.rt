@@ -2,6 +2,8 @@
 
 ghost use Rattle.std.specs.Prelude.{◌≡◌, ◌≢◌, ◌⊎◌, ℕ, List, map, string_bytes, Some, None, Err, IfOk, IfErr};
 ghost use Rattle.hpf_io.specs.Files.{Files};
+ghost use Rattle.hpf_syntax.specs.Parsed.{Says};
+ghost use Rattle.hpf_syntax.specs.Plain.{item_tree};
 ghost use Rattle.hpf_cmd.specs.declared.status.Status.{Status};
 ghost use Rattle.hpf_cmd.specs.declared.words.Action.{Action};
 ghost use Rattle.hpf_cmd.specs.Outside.{Rises, Stays};
@@ -12,12 +14,13 @@ ghost use Rattle.hpf_words.specs.declared.asked.Asked.{Asked};
 ghost use Rattle.hpf_words.specs.Words.{AsksFor};
 ghost use Rattle.hpf_cmd.specs.Words.{built};
 
-use crate::first_form::{FirstForm, first_form};
+use crate::form::{Form, all_of, form_of};
 use crate::map::items_of;
 use crate::status::Status;
 use crate::words::{Action, command_of};
 use hpf_io::Loader;
 use hpf_lex::{MAX_TEXT, MapRefusal};
+use hpf_map::{Counts, Need, resolve};
 use hpf_syntax::Items;
 use std::alloc::Global;
 
@@ -26,11 +29,16 @@ use std::alloc::Global;
 pub(crate) enum Request {
     /// The canonical text of these statements is printed.
     Show(Items),
+    /// It is told how much the text declares.
+    Check(Counts),
     /// Frames run through the pipeline of this form.
-    Run(FirstForm),
+    Run(Form),
 }
 
-/// What is answered to a text that is well written, and not of the form that is run today.
+/// The most elements that an array has whose frames run.
+const MOST_ELEMENTS: u64 = 65536;
+
+/// What is answered to a text that is well written, and whose array has more elements.
 const NOT_BUILT: MapRefusal = MapRefusal {
     code: 9,
     line: 1,
@@ -76,9 +84,35 @@ fn request_in(alloc: Global, action: Action, text: &[u8]) -> Result<Request, Sta
     let items = items_of(alloc, text)?;
     match action {
         Action::Show => Ok(Request::Show(items)),
-        Action::Run => match first_form(items.as_slice()) {
-            Some(form) => Ok(Request::Run(form)),
-            None => Err(Status::from(NOT_BUILT)),
-        },
+        Action::Check => check_of(alloc, &items),
+        Action::Run => run_of(alloc, &items),
     }
+}
+
+/// What statements come to that are to be checked.
+fn check_of(alloc: Global, items: &Items) -> Result<Request, Status>
+    ensures granted { IfOk result (λ request. (text : List ℕ) → Says text (map item_tree items.now) → Judges Action.Check text (Granted (request_tree request))) }
+    ensures met { IfOk result IsMet }
+    ensures denied { IfErr result (λ status. status ≢ Status.OutOfMemory → (text : List ℕ) → Says text (map item_tree items.now) → Judges Action.Check text (Denied status)) }
+    ensures kinds { IfErr result IsOfText }
+{
+    let program = resolve(alloc, items, Need::Mapping)?;
+    Ok(Request::Check(program.counts()))
+}
+
+/// What statements come to whose frames are to run.
+fn run_of(alloc: Global, items: &Items) -> Result<Request, Status>
+    ensures granted { IfOk result (λ request. (text : List ℕ) → Says text (map item_tree items.now) → Judges Action.Run text (Granted (request_tree request))) }
+    ensures met { IfOk result IsMet }
+    ensures denied { IfErr result (λ status. status ≢ Status.OutOfMemory → (text : List ℕ) → Says text (map item_tree items.now) → Judges Action.Run text (Denied status)) }
+    ensures kinds { IfErr result IsOfText }
+{
+    let program = resolve(alloc, items, Need::Pipeline)?;
+    let mapping = &program.stage(0).mapping;
+    let all = all_of(alloc, mapping)?;
+    if all.count() > MOST_ELEMENTS {
+        return Err(Status::from(NOT_BUILT));
+    }
+    let form = form_of(alloc, mapping, &all)?;
+    Ok(Request::Run(form))
 }

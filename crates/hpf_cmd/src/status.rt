@@ -11,6 +11,7 @@ use crate::names::{input_name, map_name};
 use hpf_io::{Failed, LoadError, Sink, write_all};
 use hpf_lex::{MapError, MapRefusal};
 use hpf_words::WordsError;
+use std::alloc::AllocError;
 
 /// What the command line looks like.
 const USAGE: &str =
@@ -84,6 +85,17 @@ impl From<MapError> for Status {
             MapError::Refused(refusal) => Status::from(refusal),
             MapError::Memory(_) => Status::OutOfMemory,
         }
+    }
+}
+
+impl From<AllocError> for Status {
+    ghost use Rattle.std.specs.Prelude.{◌≡◌};
+    ghost use Rattle.hpf_cmd.specs.declared.status.Status.TheVariants.{OutOfMemory};
+
+    ghost from_gives = { λ _ status. status ≡ OutOfMemory };
+
+    fn from(_error: AllocError) -> Status {
+        Status::OutOfMemory
     }
 }
 

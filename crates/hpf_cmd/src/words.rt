@@ -16,6 +16,8 @@ use std::alloc::Global;
 /// What is done with a map.
 #[derive(Clone, Copy, Debug, PartialEq, Eq)]
 pub enum Action {
+    /// It is told whether it is accepted, and how much it declares.
+    Check,
     /// Its canonical text is printed.
     Show,
     /// Frames run through its pipeline.
@@ -59,6 +61,7 @@ fn built(asked: &Asked<'_>) -> Option<Action>
     ensures { result ≡ built asked.now }
 {
     match asked {
+        Asked::Check => Some(Action::Check),
         Asked::Show => Some(Action::Show),
         Asked::Run { .. } => Some(Action::Run),
         _ => None,

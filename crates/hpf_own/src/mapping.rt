@@ -5,7 +5,7 @@ mod parts;
 ghost use Rattle.std.specs.Prelude.{◌≡◌, ◌+◌, ◌*◌, ◌^◌, ◌<◌, ◌≤◌, ℕ, length, filter, slice_index, All, IsTrue, IfOk, ◌↔◌, find};
 ghost use Rattle.hpf_own.specs.Space.{LiesIn, product};
 ghost use Rattle.hpf_own.specs.Lists.{IsBounds, IsSizes};
-ghost use Rattle.hpf_own.specs.Mapping.{AreInLimits, IsSmallWidth, IsOnePosition, FollowsBelow, follows, DividedBelow, divides, HasSizeOf, StaysWithin, HasSmallCoefficients, HasSome};
+ghost use Rattle.hpf_own.specs.Mapping.{IsMapping, AreInLimits, IsSmallWidth, IsOnePosition, FollowsBelow, follows, DividedBelow, divides, HasSizeOf, StaysWithin, HasSmallCoefficients, HasSome};
 ghost use Rattle.hpf_own.specs.Owners.{owns, owners, next_owner, sender, sends, holds, IsLeast, LeadsOf, IsWhole};
 ghost use Rattle.hpf_own.specs.OwnerSet.{IsSetOf, IsRepeated};
 
@@ -82,7 +82,8 @@ impl Mapping {
 
     /// The bounds of the array.
     pub fn bounds(&self) -> &Bounds
-        ensures { result.now ≡ self.now.bounds }
+        ensures same { result.now ≡ self.now.bounds }
+        ensures mapping { IsMapping self.now }
     {
         &self.bounds
     }

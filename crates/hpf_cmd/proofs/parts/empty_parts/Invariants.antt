@@ -1,5 +1,0 @@
-use Rattle.std.proofs.Common.{◌≡◌, [], replicate}
-use Rattle.hpf_cmd.proofs.parts.empty_parts.Given as goal
-
-abbrev pub invariant-loop : goal.invariant-loop
-invariant-loop l = l.parts.items ≡ replicate l.counter (record { positions = []; mark = 0 })
