@@ -34,8 +34,10 @@
 //! 50 * PIECE        a piece so many times
 //! ```
 
+mod checks;
 mod endings;
 mod lines;
+mod mappings;
 mod maps;
 mod runs;
 mod shows;
@@ -68,8 +70,16 @@ pub const COMMANDS: &[Part] = &[
         rows: maps::ROWS,
     },
     Part {
+        name: "checks",
+        rows: checks::ROWS,
+    },
+    Part {
         name: "runs",
         rows: runs::ROWS,
+    },
+    Part {
+        name: "mappings",
+        rows: mappings::ROWS,
     },
     Part {
         name: "shows",
