@@ -37,8 +37,10 @@
 mod checks;
 mod endings;
 mod lines;
+mod locals;
 mod mappings;
 mod maps;
+mod owners;
 mod runs;
 mod shows;
 mod texts;
@@ -72,6 +74,14 @@ pub const COMMANDS: &[Part] = &[
     Part {
         name: "checks",
         rows: checks::ROWS,
+    },
+    Part {
+        name: "owners",
+        rows: owners::ROWS,
+    },
+    Part {
+        name: "locals",
+        rows: locals::ROWS,
     },
     Part {
         name: "runs",

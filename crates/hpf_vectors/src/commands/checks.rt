@@ -28,6 +28,14 @@ for S 1 7 40
 file M
 step S
 
+row statements in free form, checked
+words hpfturn check M
+file M |   integer , parameter::n=(4)
+| integer a(n,0:n-1)
+| !hpf$ processors p(2)
+| !hpf$ distribute a(block , &
+| !hpf$ *)onto p
+
 row as many blanks as a text may have bytes, checked
 words hpfturn check M
 file M 1048576 * = 20
@@ -77,8 +85,6 @@ row a map to be checked that the loader doesn't hold
 words hpfturn check N
 file M @ M13
 
-# Forms that aren't built, alone and beside a breach, which comes after, or a fault, which comes before
-
 row another format, checked
 words hpfturn check M
 file M | INTEGER A(3)
@@ -99,6 +105,8 @@ file M | INTEGER A(3)
 row a shadow of an unknown name
 words hpfturn check M
 file M | !HPF$ SHADOW B(1)
+
+# Forms that aren't built, alone and beside a breach, which comes after, or a fault, which comes before
 
 row a stage
 words hpfturn check M

@@ -104,16 +104,6 @@ words hpfturn plan M
 file M @ M13
 input @ F3
 
-row owners
-words hpfturn owners M A
-file M @ M13
-input @ F3
-
-row a part
-words hpfturn local M A --proc 0
-file M @ M13
-input @ F3
-
 row parts of a stage
 words hpfturn parts M --stage 0 --workers 2
 file M @ M13
