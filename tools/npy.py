@@ -11,7 +11,7 @@ import os
 import struct
 import sys
 from array import array
-from collections.abc import Iterable, Iterator, Sequence
+from collections.abc import Iterable, Iterator
 from dataclasses import dataclass
 from enum import Enum
 from itertools import islice, product
@@ -26,8 +26,8 @@ ALIGNED = 64
 DIGITS = 21
 WIDTH = 4
 GREATEST = 2**31 - 1
-# How many elements of frames that alternate are kept at once, where a frame hasn't more.
-ROOM = 2**22
+# How many elements of frames that alternate are kept at once: as many as the greatest frame has.
+ROOM = 2**24
 
 
 class Bad(Exception):
@@ -180,7 +180,7 @@ def following(file: BinaryIO, elements: int, frames: int) -> Iterator[bytes]:
 
 
 def at_once(elements: int) -> int:
-    """How many frames that alternate are moved at once, so that each byte of a file is moved once."""
+    """How many frames that alternate are moved at once. Each byte of a file is moved once all the same."""
     return max(1, ROOM // elements)
 
 
