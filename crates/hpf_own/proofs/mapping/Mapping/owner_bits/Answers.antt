@@ -3,7 +3,7 @@ use Rattle.hpf_own.specs.Lists.{IsSizes}
 use Rattle.hpf_own.specs.Mapping.{PlainMapping, IsMapping}
 use Rattle.hpf_own.proofs.Products.{count_bounds}
 use Rattle.hpf_own.proofs.Sets.{so_far_none, so_far_more, so_far_all}
-use Rattle.hpf_own.proofs.mapping.Mapping.owner_set.Goals as goal
+use Rattle.hpf_own.proofs.mapping.Mapping.owner_bits.Goals as goal
 
 pub loop-e-init : goal.loop-e-init
 loop-e-init c = so_far_none c.args.self.now.dims c.args.index.now c.as_slice-size-items.result.now
