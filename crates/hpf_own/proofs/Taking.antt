@@ -74,4 +74,4 @@ members_are q n set h few =
     ∙ filter_same (is_member set) q 0 n (λ k low high. member_is q n set k h (omega arith))
 
 pub filter_fewer : (q : ℕ → Bool) (a n : ℕ) → length (filter q (range_with_len a n)) ≤ n
-filter_fewer q a n = omega (arith, length-filter-le q (range_with_len a n), length-range_with_len a n)
+filter_fewer q a n = omega (arith, length-filter q (range_with_len a n), count_by-le-length q (range_with_len a n), length-range_with_len a n)

@@ -1,10 +1,10 @@
 -- From one index to the next in element order.
-use Rattle.std.proofs.Common.{◌≡◌, ℕ, zero, suc, ◌+◌, ◌*◌, ◌/◌, ◌%◌, ◌<◌, ◌≤◌, Bool, true, false, List, [], ◌∷◌, ◌++◌, ◌⊎◌, inl, inr, length, map, get_or, set, take, drop, All, ℤ, pos, ◌+ℤ◌, ◌≤ℤ◌, ◌<ℤ◌, slice_get, Some, arith, mul_comm, sym, ap, ◌∙◌, subst, refl}
+use Rattle.std.proofs.Common.{◌≡◌, ℕ, zero, suc, ◌+◌, ◌*◌, ◌/◌, ◌%◌, ◌<◌, ◌≤◌, Bool, true, false, List, [], ◌∷◌, ◌++◌, ◌⊎◌, inl, inr, length, map, get_or, set, take, drop, All, ℤ, pos, ◌+ℤ◌, ◌-ℤ◌, ◌≤ℤ◌, ◌<ℤ◌, slice_get, Some, arith, mul_comm, sym, ap, ◌∙◌, subst, refl}
 use Rattle.std.proofs.lemmas.Int.{ints}
 use Rattle.std.proofs.lemmas.Nat.{mul-add-lt}
 use Rattle.std.proofs.lemmas.Bool.{cases_lt}
 use Rattle.std.proofs.lemmas.Option.{slice_get-get_or, slice_get_within, get_or_from_slice_get}
-use Rattle.std.proofs.lemmas.List.{append_assoc, append-nil, drop_all, drop_more, take_all, take_more_set, set_split, length-set, drop-set-lt, length-map}
+use Rattle.std.proofs.lemmas.List.{append_assoc, append-nil, drop_all, drop_more, take_all, take_more, take_more_set, set_split, length-set, drop-set-lt, length-map, get_or-map}
 use Rattle.std.proofs.lemmas.List.Elements.{All-head, All-tail}
 use Rattle.std.proofs.lemmas.List.FromFn.{get_or-map-range_with_len, length-map-range_with_len}
 use Rattle.hpf_num.specs.declared.run.Run.{Run}
@@ -35,12 +35,12 @@ integer_at : (run : Run) (r : ℕ) → r < length (integers run) → get_or (int
 integer_at run r h =
     get_or-map-range_with_len (λ (k : ℕ). run.low +ℤ pos k) 0 (extent run) r r (pos 0) (omega (arith, count_of run)) (omega arith)
 
-one_more : (run : Run) (r : ℕ) → run.low +ℤ pos r <ℤ run.high → r + 1 < length (integers run)
+one_more : (run : Run) (r : ℕ) → (run.low +ℤ pos r) <ℤ run.high → r + 1 < length (integers run)
 one_more run r h =
     let enough = at_most (run.high -ℤ run.low +ℤ pos 1) (r + 1) (omega (arith, ints)) in
     omega (arith, count_of run)
 
-the_last : (run : Run) (r : ℕ) → r < length (integers run) → run.high ≤ℤ run.low +ℤ pos r → r + 1 ≡ length (integers run)
+the_last : (run : Run) (r : ℕ) → r < length (integers run) → run.high ≤ℤ (run.low +ℤ pos r) → r + 1 ≡ length (integers run)
 the_last run r h high =
     elim (cases_lt (r + 1) (length (integers run))) [
       | inl less ↦
@@ -77,12 +77,12 @@ carried run bounds k q r next false whole last at =
 
 -- where it is one greater
 stepped : (run : Run) (bounds : List Run) (k q r : ℕ) (i j : ℤ) (index next : List ℤ) (more : Bool) → q * length (integers run) + r ≡ k → q < length (indices bounds) → i ≡ run.low +ℤ pos r → get_or (indices bounds) q [] ≡ index → i <ℤ run.high → j ≡ i +ℤ pos 1 → next ≡ index → more ≡ true → IsPlace (run ∷ bounds) (k + 1) (j ∷ next) more
-stepped run bounds k q r i j index next more whole chosen is at less one same yes =
+stepped run bounds k q r i j index next more whole chosen is at less one same some =
     let inside = one_more run r (omega (arith, ints)) in
     let place : q * length (integers run) + (r + 1) ≡ k + 1 = omega arith in
     let there = joined run bounds q (r + 1) chosen inside in
     let value : run.low +ℤ pos (r + 1) ≡ j = omega (arith, ints) in
-    rw (yes, same)
+    rw (some, same)
     (omega (arith, there.0), ap (λ (x : ℕ). get_or (indices (run ∷ bounds)) x []) (sym place) ∙ there.1
     ∙ ap (λ (x : ℤ). x ∷ get_or (indices bounds) q []) value ∙ ap (λ (xs : List ℤ). j ∷ xs) at)
 
@@ -161,7 +161,8 @@ wrapped_up bounds index now d run i j below is at less one h =
     let here : drop d bounds ≡ run ∷ drop (d + 1) bounds = drop_more bounds d run below ∙ ap (λ (r : Run). r ∷ drop (d + 1) bounds) (sym is) in
     let there : drop d now ≡ i ∷ drop (d + 1) now = drop_more now d i within ∙ ap (λ (x : ℤ). x ∷ drop (d + 1) now) (sym at) in
     let whole : IsNext (drop d bounds) (drop d now) (j ∷ drop (d + 1) now) true = rw (here, there) (inl (less, one, refl, refl)) in
-    rw (set_split now d j within) (h.rest (j ∷ drop (d + 1) now) true whole)
+    let suc_is : suc d ≡ d + 1 = omega arith in
+    rw (set_split now d j within, suc_is) (h.rest (j ∷ drop (d + 1) now) true whole)
 
 pub wrapped_all : (bounds : List Run) (index now : List ℤ) (d : ℕ) → length bounds ≤ d → IsWrapped bounds index d now → IsNext bounds index now false
 wrapped_all bounds index now d end h =
@@ -196,3 +197,14 @@ first_lies [] h = tt
 first_lies (run ∷ bounds) h =
     let order = All-head (λ (run : Run). run.low ≤ℤ run.high) run bounds h in
     (record { least = omega (arith, ints); greatest = order }, first_lies bounds (All-tail (λ (run : Run). run.low ≤ℤ run.high) run bounds h))
+
+pub written_more : (bounds : List Run) (into : List ℤ) (d : ℕ) (run : Run) → d < length bounds → length into ≡ length bounds → run ≡ get_or bounds d run → take d into ≡ take d (lows bounds) → take (d + 1) (set into d run.low) ≡ take (d + 1) (lows bounds)
+written_more bounds into d run below rank is h =
+    let low : get_or (lows bounds) d run.low ≡ run.low = get_or-map (λ (r : Run). r.low) bounds d run run.low below ∙ ap (λ (r : Run). r.low) (sym is) in
+    take_more_set into d run.low (omega arith)
+    ∙ ap (λ (xs : List ℤ). xs ++ run.low ∷ []) h
+    ∙ sym (take_more (lows bounds) d run.low (omega (arith, length-map bounds (λ (r : Run). r.low))) ∙ ap (λ (x : ℤ). take d (lows bounds) ++ x ∷ []) low)
+
+pub written_all : (bounds : List Run) (into : List ℤ) (d : ℕ) → length bounds ≤ d → length into ≡ length bounds → take d into ≡ take d (lows bounds) → into ≡ lows bounds
+written_all bounds into d end rank h =
+    sym (take_all d into (omega arith)) ∙ h ∙ take_all d (lows bounds) (omega (arith, length-map bounds (λ (r : Run). r.low)))
