@@ -6,6 +6,7 @@ pub mod Answered
 pub mod Verdicts
 pub mod Completed
 pub mod MarkLinesLemmas
+pub mod Alike
 pub mod OneForm
 pub mod Staged
 pub mod Placed

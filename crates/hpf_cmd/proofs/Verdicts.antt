@@ -1,5 +1,5 @@
 -- The order of tests comes to one verdict.
-use Rattle.std.proofs.Common.{◌≡◌, ◌≢◌, ◌+◌, ◌<◌, ◌≤◌, ℕ, arith, List, take, Option, Some, None, Result, Ok, Err, IfOk, IfErr, inl, inr, refl, sym, ap, ◌∙◌, subst}
+use Rattle.std.proofs.Common.{◌≡◌, ◌≢◌, ◌+◌, ◌<◌, ◌≤◌, nat_le, nat_lt, Bool, true, false, ℕ, arith, List, take, Option, Some, None, Result, Ok, Err, IfOk, IfErr, inl, inr, refl, sym, ap, ◌∙◌, subst}
 use Rattle.hpf_io.specs.Files.{Files, HasFront}
 use Rattle.hpf_lex.specs.declared.refusal.MapError.{MapError}
 use Rattle.hpf_lex.specs.declared.refusal.MapError.TheVariants as answer
@@ -23,14 +23,20 @@ use Rattle.hpf_map.specs.Built.{not_built}
 use Rattle.hpf_map.specs.Program.{PlainProgram, IsProgram, counts_of}
 use Rattle.hpf_map.specs.Refusal.{refusal, Resolves}
 use Rattle.hpf_cmd.specs.Form.{Form, IsFormOf}
-use Rattle.hpf_cmd.specs.Order.{Verdict, Denied, Granted, Judges, Faulty, ToShow, Refused, TooLong, ToCheck, ToRun, Order, NoAction, NotBuilt, OfText, IsLoaded, need_of, most_elements}
-use Rattle.hpf_cmd.specs.Request.{Show, Check, Run, request_tree}
+use Rattle.hpf_cmd.specs.Order.{Verdict, Denied, Granted, Judges, Faulty, Refused, Passed, Comes, Decides, Order, NoAction, NotBuilt, OfText, IsLoaded, need_of, most_elements, run_verdict, owners_verdict, local_verdict}
+use Rattle.hpf_own.specs.Held.{owned_part, held_part}
+use Rattle.hpf_own.specs.Mapping.{PlainMapping}
+use Rattle.hpf_own.specs.Space.{product}
+use Rattle.std.proofs.lemmas.Bool.Decides.{nat_tests}
+use Rattle.hpf_cmd.specs.Request.{Show, Check, Owners, Local, Run, request_tree}
 use Rattle.hpf_cmd.specs.declared.request.Request.{Request}
 use Rattle.hpf_cmd.specs.Statuses.{refusal_status, text_status, IsOfText, IsOfDeed}
 use Rattle.hpf_words.specs.declared.asked.Asked.{Asked}
 use Rattle.hpf_words.specs.Words.{AsksFor}
 use Rattle.hpf_cmd.specs.Words.{Asks, built}
-use Rattle.hpf_cmd.proofs.OneForm.{OnlyIndices, one_form}
+use Rattle.hpf_cmd.specs.Named.{IsNamed, IsUnnamed, Broken, NoArray}
+use Rattle.hpf_cmd.proofs.Alike.{OnlyIndices, one_owners, one_local}
+use Rattle.hpf_cmd.proofs.OneForm.{one_form}
 
 -- a text that was not read is refused for its fault
 pub faulty : (asked : Action) (text : List ℕ) (e : MapError) (end : Status) → end ≡ text_status e → IfRefused {A = List Item} (Err e) (IsFaultOf text) → end ≢ status.OutOfMemory → Judges asked text (Denied end)
@@ -71,83 +77,41 @@ fault_once once text r t (inr f) (inl g) = absurd (once.no_tokens text f.0 t f.1
 fault_once once text r t (inr f) (inr g) =
     once.refusal g.0 r t (subst (λ (ts : List Token). IsRefusalOf ts r) (once.tokens text f.0 g.0 f.1 g.1) f.2) g.2
 
--- the verdicts of one text, once its items are known: what isn't a fault comes to one verdict
-data Meant (asked : Action) (items : List ItemTree) (verdict : Verdict) : Type 0 where
-  Shown : asked ≡ action.Show → verdict ≡ Granted (Show items) → Meant asked items verdict
-  Broken : (need : Need) → need_of asked ≡ Some need → (r : MapRefusal) → refusal need items ≡ Some r → verdict ≡ Denied (refusal_status r) → Meant asked items verdict
-  Long : asked ≡ action.Run → refusal needed.Pipeline items ≡ None → (form : Form) → IsFormOf items form → most_elements < elements form.extents → verdict ≡ Denied (refusal_status not_built) → Meant asked items verdict
-  Told : asked ≡ action.Check → refusal needed.Mapping items ≡ None → verdict ≡ Granted (Check (counts_of items)) → Meant asked items verdict
-  Ran : asked ≡ action.Run → refusal needed.Pipeline items ≡ None → (form : Form) → IsFormOf items form → elements form.extents ≤ most_elements → verdict ≡ Granted (Run form) → Meant asked items verdict
-
--- a text is faulty, or says something and means something
-data Comes (asked : Action) (text : List ℕ) (verdict : Verdict) : Type 0 where
-  Wrong : (r : MapRefusal) → IsFaultOf text r → verdict ≡ Denied (refusal_status r) → Comes asked text verdict
-  Right : (items : List ItemTree) → Says text items → Meant asked items verdict → Comes asked text verdict
-
-comes : (asked : Action) (text : List ℕ) (v : Verdict) → Judges asked text v → Comes asked text v
-comes asked text v (Faulty r f e) = Wrong r f e
-comes asked text v (ToShow show items says e) = Right items says (Shown show e)
-comes asked text v (Refused need needs items says r is e) = Right items says (Broken need needs r is e)
-comes asked text v (TooLong run items says none form is long e) = Right items says (Long run none form is long e)
-comes asked text v (ToCheck check items says none e) = Right items says (Told check none e)
-comes asked text v (ToRun run items says none form is few e) = Right items says (Ran run none form is few e)
-
--- a refusal for what an action needs, where there is none
-never_refused : (asked : Action) (items : List ItemTree) (need other : Need) (r : MapRefusal) → need_of asked ≡ Some need → need_of asked ≡ Some other → refusal need items ≡ Some r → refusal other items ≡ None → ⊥
-never_refused asked items need other r needs wants is none =
+-- one need, one refusal
+one_need : (asked : Action) (items : List ItemTree) (need other : Need) (r : Option MapRefusal) → need_of asked ≡ Some need → need_of asked ≡ Some other → refusal other items ≡ r → refusal need items ≡ r
+one_need asked items need other r needs wants is =
     let both : Some need ≡ Some other = sym needs ∙ wants in
     let same : need ≡ other = cc in
-    let no : Some r ≡ None = sym is ∙ (ap (λ (n : Need). refusal n items) same ∙ none) in
-    absurd cc
+    ap (λ (n : Need). refusal n items) same ∙ is
 
-one_refusal : (asked : Action) (items : List ItemTree) (need other : Need) (r t : MapRefusal) → need_of asked ≡ Some need → need_of asked ≡ Some other → refusal need items ≡ Some r → refusal other items ≡ Some t → r ≡ t
-one_refusal asked items need other r t needs wants is at =
-    let both : Some need ≡ Some other = sym needs ∙ wants in
-    let same : need ≡ other = cc in
-    let said : Some r ≡ Some t = sym is ∙ (ap (λ (n : Need). refusal n items) same ∙ at) in
-    cc
+never_passed : (asked : Action) (items : List ItemTree) (need : Need) (r : MapRefusal) → need_of asked ≡ Some need → refusal need items ≡ Some r → ((need : Need) → need_of asked ≡ Some need → refusal need items ≡ None) → ⊥
+never_passed asked items need r needs is clear = absurd (let no : Some r ≡ None = sym is ∙ clear need needs in cc)
 
-never_long : OnlyIndices → (items : List ItemTree) (f g : Form) → IsFormOf items f → IsFormOf items g → most_elements < elements f.extents → elements g.extents ≤ most_elements → ⊥
-never_long only items f g is at long few =
-    let same : elements f.extents ≡ elements g.extents = ap (λ (z : Form). elements z.extents) (one_form only items f g is at) in
-    absurd (omega (arith, same, long, few))
-
-one_meaning : OnlyIndices → (asked : Action) (items : List ItemTree) (v w : Verdict) → Meant asked items v → Meant asked items w → v ≡ w
-one_meaning only asked items v w (Shown a e) (Shown b h) = e ∙ sym h
-one_meaning only asked items v w (Shown a e) (Broken need b r is h) = absurd (let no : None ≡ Some need = sym (ap need_of a) ∙ b in cc)
-one_meaning only asked items v w (Shown a e) (Long b none form is long h) = absurd cc
-one_meaning only asked items v w (Shown a e) (Told b none h) = absurd cc
-one_meaning only asked items v w (Shown a e) (Ran b none form is few h) = absurd cc
-one_meaning only asked items v w (Broken need a r is e) (Shown b h) = absurd (let no : None ≡ Some need = sym (ap need_of b) ∙ a in cc)
-one_meaning only asked items v w (Broken need a r is e) (Broken other b t at h) = e ∙ (ap (λ (z : MapRefusal). Denied (refusal_status z)) (one_refusal asked items need other r t a b is at) ∙ sym h)
-one_meaning only asked items v w (Broken need a r is e) (Long b none form at long h) = absurd (never_refused asked items need needed.Pipeline r a (ap need_of b) is none)
-one_meaning only asked items v w (Broken need a r is e) (Told b none h) = absurd (never_refused asked items need needed.Mapping r a (ap need_of b) is none)
-one_meaning only asked items v w (Broken need a r is e) (Ran b none form at few h) = absurd (never_refused asked items need needed.Pipeline r a (ap need_of b) is none)
-one_meaning only asked items v w (Long a none form is long e) (Shown b h) = absurd cc
-one_meaning only asked items v w (Long a none form is long e) (Broken need b r at h) = absurd (never_refused asked items need needed.Pipeline r b (ap need_of a) at none)
-one_meaning only asked items v w (Long a none form is long e) (Long b none' form' at long' h) = e ∙ sym h
-one_meaning only asked items v w (Long a none form is long e) (Told b none' h) = absurd cc
-one_meaning only asked items v w (Long a none form is long e) (Ran b none' form' at few h) = absurd (never_long only items form form' is at long few)
-one_meaning only asked items v w (Told a none e) (Shown b h) = absurd cc
-one_meaning only asked items v w (Told a none e) (Broken need b r at h) = absurd (never_refused asked items need needed.Mapping r b (ap need_of a) at none)
-one_meaning only asked items v w (Told a none e) (Long b none' form at long h) = absurd cc
-one_meaning only asked items v w (Told a none e) (Told b none' h) = e ∙ sym h
-one_meaning only asked items v w (Told a none e) (Ran b none' form at few h) = absurd cc
-one_meaning only asked items v w (Ran a none form is few e) (Shown b h) = absurd cc
-one_meaning only asked items v w (Ran a none form is few e) (Broken need b r at h) = absurd (never_refused asked items need needed.Pipeline r b (ap need_of a) at none)
-one_meaning only asked items v w (Ran a none form is few e) (Long b none' form' at long h) = absurd (never_long only items form' form at is long few)
-one_meaning only asked items v w (Ran a none form is few e) (Told b none' h) = absurd cc
-one_meaning only asked items v w (Ran a none form is few e) (Ran b none' form' at few' h) = e ∙ (ap (λ (z : Form). Granted (Run z)) (one_form only items form form' is at) ∙ sym h)
-
-one_coming : ReadOnce → (asked : Action) (text : List ℕ) (v w : Verdict) → Comes asked text v → Comes asked text w → v ≡ w
-one_coming once asked text v w (Wrong r f e) (Wrong t g h) = e ∙ (ap (λ (z : MapRefusal). Denied (refusal_status z)) (fault_once once text r t f g) ∙ sym h)
-one_coming once asked text v w (Wrong r f e) (Right items says means) = absurd (never_both once text items r says f)
-one_coming once asked text v w (Right items says means) (Wrong r f e) = absurd (never_both once text items r says f)
-one_coming once asked text v w (Right items says means) (Right others says' means') =
-    one_meaning once.order asked others v w (subst (λ (z : List ItemTree). Meant asked z v) (says_once once text items others says says') means) means'
+-- what an action makes of statements is one thing
+one_coming : OnlyIndices → (asked : Action) (items : List ItemTree) (v w : Verdict) → Comes asked items v → Comes asked items w → v ≡ w
+one_coming only action.Show items v w f g = f ∙ sym g
+one_coming only action.Check items v w f g = f ∙ sym g
+one_coming only (action.Owners name) items v w f g = f.2 ∙ (one_owners only items name f.0 g.0 f.1 g.1 ∙ sym g.2)
+one_coming only (action.Local name p) items v w f g = f.2 ∙ (one_local only items name p f.0 g.0 f.1 g.1 ∙ sym g.2)
+one_coming only action.Run items v w f g = f.2 ∙ (ap run_verdict (one_form only items f.0 g.0 f.1 g.1) ∙ sym g.2)
 
 one_judgement : ReadOnce → (asked : Action) (text : List ℕ) (v w : Verdict) → Judges asked text v → Judges asked text w → v ≡ w
-one_judgement once asked text v w a b = one_coming once asked text v w (comes asked text v a) (comes asked text w b)
+one_judgement once asked text v w (Faulty r f e) (Faulty t g h) = e ∙ (ap (λ (z : MapRefusal). Denied (refusal_status z)) (fault_once once text r t f g) ∙ sym h)
+one_judgement once asked text v w (Faulty r f e) (Refused items says need needs t is h) = absurd (never_both once text items r says f)
+one_judgement once asked text v w (Faulty r f e) (Passed items says clear comes) = absurd (never_both once text items r says f)
+one_judgement once asked text v w (Refused items says need needs t is h) (Faulty r f e) = absurd (never_both once text items r says f)
+one_judgement once asked text v w (Passed items says clear comes) (Faulty r f e) = absurd (never_both once text items r says f)
+one_judgement once asked text v w (Refused items says need needs r is e) (Refused others says' need' needs' t at h) =
+    let one = subst (λ (z : List ItemTree). refusal need z ≡ Some r) (says_once once text items others says says') is in
+    let both : Some r ≡ Some t = sym one ∙ one_need asked others need need' (Some t) needs needs' at in
+    let same : r ≡ t = cc in
+    e ∙ (ap (λ (z : MapRefusal). Denied (refusal_status z)) same ∙ sym h)
+one_judgement once asked text v w (Refused items says need needs r is e) (Passed others says' clear comes) =
+    absurd (never_passed asked others need r needs (subst (λ (z : List ItemTree). refusal need z ≡ Some r) (says_once once text items others says says') is) clear)
+one_judgement once asked text v w (Passed others says' clear comes) (Refused items says need needs r is e) =
+    absurd (never_passed asked others need r needs (subst (λ (z : List ItemTree). refusal need z ≡ Some r) (says_once once text items others says says') is) clear)
+one_judgement once asked text v w (Passed items says clear comes) (Passed others says' clear' comes') =
+    one_coming once.order asked others v w (subst (λ (z : List ItemTree). Comes asked z v) (says_once once text items others says says') comes) comes'
 
 -- words ask for one thing, built or not
 abbrev pub OneLine : Type 0
@@ -196,32 +160,78 @@ one_verdict one once words told all v w is (OfText a m text asks loaded judged) 
 pub denied_by : {T : Type 0} (P : Status → Type 0) (r : Result T Status) (end : Status) → r ≡ Err end → P end → IfErr r P
 denied_by P r end is p = subst (λ (z : _). IfErr z P) (sym is) p
 
--- a text that is refused for what it means
-pub unresolved : (asked : Action) (need : Need) (items : List ItemTree) (e : MapError) (end : Status) → need_of asked ≡ Some need → end ≡ text_status e → Resolves (Err e) need items → end ≢ status.OutOfMemory
-    → (text : List ℕ) → Says text items → Judges asked text (Denied end)
-unresolved asked need items (answer.Refused r) end needs is why memory text says = Refused need needs items says r why (ap Denied is)
+-- statements that are refused for what they mean
+pub unresolved : (asked : Action) (need : Need) (items : List ItemTree) (e : MapError) (end : Status) → need_of asked ≡ Some need → end ≡ text_status e → Resolves (Err e) need items → end ≢ status.OutOfMemory → Decides asked items (Denied end)
+unresolved asked need items (answer.Refused r) end needs is why memory text says = Refused items says need needs r why (ap Denied is)
 unresolved asked need items (answer.Memory m) end needs is why memory text says = absurd (memory is)
 
-pub told : (items : List ItemTree) (counts : Counts) (program : PlainProgram) → refusal needed.Mapping items ≡ None → IsProgram items program → counts ≡ program.counts
-    → (text : List ℕ) → Says text items → Judges action.Check text (Granted (Check counts))
-told items counts program none is same text says = ToCheck refl items says none (ap (λ (z : Counts). Granted (Check z)) (same ∙ is.counts))
+-- statements that an action does not refuse for what they mean
+pub passed : (asked : Action) (need : Need) (items : List ItemTree) (verdict : Verdict) → need_of asked ≡ Some need → refusal need items ≡ None → Comes asked items verdict → Decides asked items verdict
+passed asked need items verdict needs none comes text says = Passed items says (λ other wants. one_need asked items other need None wants needs none) comes
 
-pub too_long : (items : List ItemTree) (form : Form) (end : Status) → refusal needed.Pipeline items ≡ None → IsFormOf items form → most_elements < elements form.extents → end ≡ refusal_status not_built
-    → (text : List ℕ) → Says text items → Judges action.Run text (Denied end)
-too_long items form end none is long why text says = TooLong refl items says none form is long (ap Denied why)
+-- statements that are shown
+pub shown : (asked : Action) (text : List ℕ) (items : List ItemTree) → asked ≡ action.Show → Says text items → Judges asked text (Granted (Show items))
+shown asked text items is says =
+    subst (λ (z : Action). Judges z text (Granted (Show items))) (sym is) (Passed items says (λ need wants. absurd (let no : None ≡ Some need = wants in cc)) refl)
 
-pub ran : (items : List ItemTree) (form : Form) → refusal needed.Pipeline items ≡ None → IsFormOf items form → elements form.extents ≤ most_elements
-    → (text : List ℕ) → Says text items → Judges action.Run text (Granted (Run form))
-ran items form none is few text says = ToRun refl items says none form is few refl
+-- a form with too many elements, and one that runs
+pub too_long : (items : List ItemTree) (form : Form) (end : Status) → refusal needed.Pipeline items ≡ None → IsFormOf items form → most_elements < elements form.extents → end ≡ refusal_status not_built → Decides action.Run items (Denied end)
+too_long items form end none is long why = passed action.Run needed.Pipeline items (Denied end) refl none (form, is, by (nat_le (elements form.extents) most_elements) refl)
+  where
+    by : (b : Bool) → nat_le (elements form.extents) most_elements ≡ b → Denied end ≡ run_verdict form
+    by true few = absurd (omega (arith, nat_tests, few, long))
+    by false many = rw many (ap Denied why)
+
+pub ran : (items : List ItemTree) (form : Form) → refusal needed.Pipeline items ≡ None → IsFormOf items form → elements form.extents ≤ most_elements → Decides action.Run items (Granted (Run form))
+ran items form none is few = passed action.Run needed.Pipeline items (Granted (Run form)) refl none (form, is, by (nat_le (elements form.extents) most_elements) refl)
+  where
+    by : (b : Bool) → nat_le (elements form.extents) most_elements ≡ b → Granted (Run form) ≡ run_verdict form
+    by true at = rw at refl
+    by false many = absurd (omega (arith, nat_tests, few, many))
+
+-- a processor that is there, and one that isn't
+pub holder : (items : List ItemTree) (name : List ℕ) (p : ℕ) (m : PlainMapping) → refusal needed.Mapping items ≡ None → IsNamed items name (Some m) → p < product m.procs
+    → Decides (action.Local name p) items (Granted (Local (owned_part m p).indices (held_part m p).indices))
+holder items name p m none is below =
+    passed (action.Local name p) needed.Mapping items (Granted (Local (owned_part m p).indices (held_part m p).indices)) refl none (Some m, is, by (nat_lt p (product m.procs)) refl)
+  where
+    by : (b : Bool) → nat_lt p (product m.procs) ≡ b → Granted (Local (owned_part m p).indices (held_part m p).indices) ≡ local_verdict p (Some m)
+    by true at = rw at refl
+    by false at = absurd (omega (arith, nat_tests, below, at))
+
+pub no_holder : (items : List ItemTree) (name : List ℕ) (p : ℕ) (m : PlainMapping) (end : Status) → refusal needed.Mapping items ≡ None → IsNamed items name (Some m) → product m.procs ≤ p → end ≡ status.Usage 3
+    → Decides (action.Local name p) items (Denied end)
+no_holder items name p m end none is above why = passed (action.Local name p) needed.Mapping items (Denied end) refl none (Some m, is, by (nat_lt p (product m.procs)) refl)
+  where
+    by : (b : Bool) → nat_lt p (product m.procs) ≡ b → Denied end ≡ local_verdict p (Some m)
+    by true at = absurd (omega (arith, nat_tests, above, at))
+    by false at = rw at (ap Denied why)
+
+-- statements without a mapped array by the name that an action has
+pub unnamed : (asked : Action) (items : List ItemTree) (name : List ℕ) (end : Status) → need_of asked ≡ Some needed.Mapping → (IsNamed items name None → end ≡ status.Usage 2 → Comes asked items (Denied end)) → IsUnnamed items name end
+    → Decides asked items (Denied end)
+unnamed asked items name end needs comes (Broken r is e) text says = Refused items says needed.Mapping needs r is (ap Denied e)
+unnamed asked items name end needs comes (NoArray none named e) text says = passed asked needed.Mapping items (Denied end) needs none (comes named e) text says
+
+-- the same of a status that a call hands on
+pub denied_same : {T : Type 0} (r : Result T Status) (asked : Action) (items : List ItemTree) (name : List ℕ) (first end : Status) → r ≡ Err end → end ≡ first → need_of asked ≡ Some needed.Mapping
+    → (IsNamed items name None → end ≡ status.Usage 2 → Comes asked items (Denied end)) → (first ≢ status.OutOfMemory → IsUnnamed items name first) → IfErr r (λ end. end ≢ status.OutOfMemory → Decides asked items (Denied end))
+denied_same r asked items name first end is same needs comes why =
+    denied_by _ r end is (λ memory. unnamed asked items name end needs comes (subst (IsUnnamed items name) (sym same) (why (λ e. memory (same ∙ e)))))
+
+-- why a name has no mapping
+pub unresolved_name : (items : List ItemTree) (name : List ℕ) (e : MapError) (end : Status) → end ≡ text_status e → Resolves (Err e) needed.Mapping items → end ≢ status.OutOfMemory → IsUnnamed items name end
+unresolved_name items name (answer.Refused r) end is why memory = Broken r why is
+unresolved_name items name (answer.Memory m) end is why memory = absurd (memory is)
 
 -- what statements come to, once a text says them
 pub granted_as : (asked done : Action) (text : List ℕ) (items : List ItemTree) (r : Result Request Status) → asked ≡ done → Says text items
-    → IfOk r (λ request. (text : List ℕ) → Says text items → Judges done text (Granted (request_tree request))) → IfOk r (λ request. Judges asked text (Granted (request_tree request)))
+    → IfOk r (λ request. Decides done items (Granted (request_tree request))) → IfOk r (λ request. Judges asked text (Granted (request_tree request)))
 granted_as asked done text items (Ok request) is says judged = subst (λ (z : Action). Judges z text (Granted (request_tree request))) (sym is) (judged text says)
 granted_as asked done text items (Err end) is says judged = tt
 
 pub denied_as : (asked done : Action) (text : List ℕ) (items : List ItemTree) (r : Result Request Status) → asked ≡ done → Says text items
-    → IfErr r (λ end. end ≢ status.OutOfMemory → (text : List ℕ) → Says text items → Judges done text (Denied end)) → IfErr r (λ end. end ≢ status.OutOfMemory → Judges asked text (Denied end))
+    → IfErr r (λ end. end ≢ status.OutOfMemory → Decides done items (Denied end)) → IfErr r (λ end. end ≢ status.OutOfMemory → Judges asked text (Denied end))
 denied_as asked done text items (Ok request) is says judged = tt
 denied_as asked done text items (Err end) is says judged = λ memory. subst (λ (z : Action). Judges z text (Denied end)) (sym is) (judged memory text says)
 

@@ -1,0 +1,17 @@
+use Rattle.std.proofs.Common.{map, refl, ap, None, Some}
+use Rattle.std.proofs.lemmas.Result.{err_from_is_err_and}
+use Rattle.hpf_map.specs.declared.program.Need.TheVariants.{Mapping}
+use Rattle.hpf_syntax.specs.Plain.{item_tree}
+use Rattle.hpf_cmd.specs.declared.words.Action.TheVariants as action
+use Rattle.hpf_cmd.specs.Order.{Denied}
+use Rattle.hpf_cmd.proofs.Verdicts.{passed, unnamed, denied_same}
+use Rattle.hpf_cmd.proofs.request.owners_of.Goals as goal
+
+pub returns-in_err-mapping-clause-denied : goal.returns-in_err-mapping-clause-denied
+returns-in_err-mapping-clause-denied c =
+    let p = err_from_is_err_and c.from_residual.result c.from_residual.ensures.1 in
+    denied_same _ (action.Owners c.args.name.now) (map item_tree c.args.items.now) c.args.name.now c.in_err-mapping.field-0.0 p.0 p.1 p.2 refl (λ named is. (None, named, ap Denied is)) c.in_err-mapping.ensures.denied
+
+pub returns-clause-granted : goal.returns-clause-granted
+returns-clause-granted c =
+    passed (action.Owners c.args.name.now) Mapping (map item_tree c.args.items.now) _ refl c.in_ok-mapping.ensures.accepted (Some c.in_ok-mapping.mapping, c.in_ok-mapping.ensures.named, refl)
