@@ -1,8 +1,8 @@
 -- Text that is gathered, one call after another.
-use Rattle.std.proofs.Common.{◌≡◌, ℕ, ◌≤◌, List, [], ◌++◌, Option, Result, Ok, Err, append_assoc, append-nil, sym, ap, ◌∙◌, subst, refl}
+use Rattle.std.proofs.Common.{◌≡◌, ℕ, List, [], ◌++◌, Option, Result, Ok, Err, append_assoc, append-nil, sym, ap, ◌∙◌, subst, refl}
 use Rattle.hpf_io.specs.declared.failed.Failed.{Failed}
 use Rattle.hpf_io.specs.Writes.{Writes, Writes-then, Writes-cut, Writes-nothing}
-use Rattle.hpf_report.specs.Gathers.{Leaves, Gathers}
+use Rattle.hpf_report.specs.Gathers.{Gathers}
 
 -- one call after another
 pub Gathers-then : {K : Type 0} {given : K → Option (List ℕ)} {flushed faults : K → ℕ} {takes : K → ℕ → Type 0} {old mid new : K} {before between after : List ℕ} {u : Unit {0}} {result : Result (Unit {0}) Failed} {xs ys : List ℕ} → Gathers given flushed faults takes old mid before between (Ok u) xs → Gathers given flushed faults takes mid new between after result ys → Gathers given flushed faults takes old new before after result (xs ++ ys)
@@ -53,8 +53,8 @@ Gathers-lost {given = given} {flushed} {faults} {takes} {old} {new} {e} {before}
 
 -- ---- a whole text
 -- a line more
-pub line_more : {K : Type 0} {given : K → Option (List ℕ)} {flushed faults : K → ℕ} {takes : K → ℕ → Type 0} {old mid new : K} {gathered left after text line : List ℕ} {u v : Unit {0}} → Gathers given flushed faults takes old mid [] gathered (Ok u) text → Gathers given flushed faults takes mid new gathered left (Ok v) [] → after ≡ left ++ line → Gathers given flushed faults takes old new [] after (Ok tt) (text ++ line)
-line_more {K} {given} {flushed} {faults} {takes} {old} {mid} {new} {gathered} {left} {after} {text} {line} so_far room is =
+pub line_more : {K : Type 0} {given : K → Option (List ℕ)} {flushed faults : K → ℕ} {takes : K → ℕ → Type 0} {old mid new : K} {gathered left after text : List ℕ} {u v : Unit {0}} (line : List ℕ) → Gathers given flushed faults takes old mid [] gathered (Ok u) text → Gathers given flushed faults takes mid new gathered left (Ok v) [] → after ≡ left ++ line → Gathers given flushed faults takes old new [] after (Ok tt) (text ++ line)
+line_more {given = given} {flushed} {faults} {takes} {new = new} {left = left} line so_far room is =
     rw is (Gathers-then so_far (Gathers-then room (Gathers-behind given flushed faults takes new tt left line)))
 
 -- no line more, and a part of the whole text

@@ -11,6 +11,7 @@ ghost use Rattle.std.specs.List.{flat_map};
 use crate::gathered::{Gathered, ROOM, give, make_room, push_small};
 use crate::index::push_index;
 use hpf_io::{Failed, Sink};
+use hpf_own::laws::element_order;
 use hpf_own::{Mapping, OwnerSet};
 
 /// The most bytes that a line has.
@@ -20,6 +21,8 @@ const LONGEST_LINE: usize = 1024;
 pub fn owners_text<K: Sink>(mapping: &Mapping, out: &mut K) -> Result<(), Failed>
     ensures { Writes K.given K.flushed K.faults K.takes out.old out.new result (owners_text mapping.now) }
 {
+    // (there are few enough elements to be counted)
+    element_order();
     let mut gathered = Gathered::new();
     let bounds = mapping.bounds();
     let mut subscripts = [0; 7];
@@ -39,6 +42,7 @@ pub fn owners_text<K: Sink>(mapping: &Mapping, out: &mut K) -> Result<(), Failed
 /// Appends the line of an element.
 fn push_line(gathered: &mut Gathered, mapping: &Mapping, index: &[i64])
     requires index { LiesIn mapping.now.bounds index.now }
+    requires short { length index.now ≤ 7 }
     requires room { array_string_len gathered.old + LONGEST_LINE ≤ ROOM }
     ensures { gathered.new.bytes ≡ gathered.old.bytes ++ owners_line mapping.now index.now }
 {
@@ -56,7 +60,16 @@ fn push_owners(gathered: &mut Gathered, owners: OwnerSet)
 {
     let mut rest = owners;
     while let Some(p) = rest.pop_first() {
-        gathered.push_str(" ");
-        push_small(gathered, p);
+        push_owner(gathered, p);
     }
+}
+
+/// Appends a blank and the number of a processor.
+fn push_owner(gathered: &mut Gathered, p: u32)
+    requires { array_string_len gathered.old + 11 ≤ ROOM }
+    ensures bytes { gathered.new.bytes ≡ gathered.old.bytes ++ owner_text p }
+    ensures len { array_string_len gathered.new ≤ array_string_len gathered.old + 11 }
+{
+    gathered.push_str(" ");
+    push_small(gathered, p);
 }
