@@ -175,7 +175,7 @@ part_alike : OnlyIndices → (m w : PlainMapping) (p : ℕ) (b : Bool) → IsSam
     ≡ cond b (Granted (Local (owned_part w p).indices (held_part w p).indices)) (Denied (status.Usage 3))
 part_alike only m w p false same is = refl
 part_alike only m w p true same is =
-    let below : p < product m.procs = omega (arith, nat_tests, is) in
+    let below : p < product m.procs = grind (arith, nat_tests, is) in
     ap (λ (owned : List (List ℤ)). Granted (Local owned (held_part m p).indices)) (same_owned_part only m w p same below)
     ∙ ap (λ (held : List (List ℤ)). Granted (Local (owned_part w p).indices held)) (same_held_part only m w p same below)
 

@@ -83,9 +83,9 @@ pub(crate) fn request_of<L: Loader>(
 
 /// What a text comes to for an action.
 fn request_in(alloc: Global, action: Action<'_>, text: &[u8]) -> Result<Request, Status>
-    ensures granted { IfOk result (λ request. Judges action text.now (Granted (request_tree request))) }
+    ensures granted { IfOk result (λ request. Judges action.entry text.now (Granted (request_tree request))) }
     ensures met { IfOk result IsMet }
-    ensures denied { IfErr result (λ status. status ≢ Status.OutOfMemory → Judges action text.now (Denied status)) }
+    ensures denied { IfErr result (λ status. status ≢ Status.OutOfMemory → Judges action.entry text.now (Denied status)) }
     ensures kinds { IfErr result IsOfText }
 {
     let items = items_of(alloc, text)?;

@@ -67,7 +67,7 @@ pub(crate) fn command_of(alloc: Global, words: &[String]) -> Result<Command<'_>,
 
 /// The action that is asked for, where it is built.
 fn built<'a>(asked: Asked<'a>) -> Option<Action<'a>>
-    ensures { result ≡ built asked }
+    ensures { result ≡ built asked.entry }
 {
     match asked {
         Asked::Check => Some(Action::Check),
