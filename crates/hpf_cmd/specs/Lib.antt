@@ -1,5 +1,6 @@
 pub mod Words
 pub mod Form
+pub mod Named
 pub mod Statuses
 pub mod CountsText
 pub mod Request

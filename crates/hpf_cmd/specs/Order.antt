@@ -1,6 +1,6 @@
 -- The order of tests: the words, then the text that was loaded, from its first fault to what it means. A row presumes that
 -- those above it were passed.
-use Rattle.std.specs.Prelude.{◌≡◌, ◌+◌, ◌<◌, ◌≤◌, ℕ, List, Option, Some, None}
+use Rattle.std.specs.Prelude.{◌≡◌, ◌+◌, nat_le, nat_lt, ℕ, List, Option, Some, None, if◌then◌else◌}
 use Rattle.hpf_frame.specs.FrameFile.{elements}
 use Rattle.hpf_io.specs.Files.{Files, HasFront}
 use Rattle.hpf_lex.specs.Statement.{max_text}
@@ -10,6 +10,10 @@ use Rattle.hpf_map.specs.declared.program.Need.TheVariants.{Mapping, Pipeline}
 use Rattle.hpf_map.specs.Built.{not_built}
 use Rattle.hpf_map.specs.Program.{counts_of}
 use Rattle.hpf_map.specs.Refusal.{refusal}
+use Rattle.hpf_own.specs.Held.{owned_part, held_part}
+use Rattle.hpf_own.specs.Mapping.{PlainMapping}
+use Rattle.hpf_own.specs.Space.{product}
+use Rattle.hpf_report.specs.OwnersText.{owners_text}
 use Rattle.hpf_syntax.specs.Plain.{ItemTree}
 use Rattle.hpf_syntax.specs.Parsed.{Says, IsFaultOf}
 use Rattle.hpf_cmd.specs.declared.status.Status.{Status}
@@ -17,8 +21,9 @@ use Rattle.hpf_cmd.specs.declared.status.Status.TheVariants as status
 use Rattle.hpf_cmd.specs.declared.words.Action.{Action}
 use Rattle.hpf_cmd.specs.declared.words.Action.TheVariants as action
 use Rattle.hpf_cmd.specs.Form.{Form, IsFormOf}
+use Rattle.hpf_cmd.specs.Named.{IsNamed}
 use Rattle.hpf_cmd.specs.Statuses.{refusal_status}
-use Rattle.hpf_cmd.specs.Request.{RequestTree, Show, Check, Run}
+use Rattle.hpf_cmd.specs.Request.{RequestTree, Show, Check, Owners, Local, Run}
 use Rattle.hpf_words.specs.declared.asked.Asked.{Asked}
 use Rattle.hpf_words.specs.Words.{AsksFor}
 use Rattle.hpf_cmd.specs.Words.{Asks, built}
@@ -32,6 +37,8 @@ pub data Verdict : Type 0 where
 abbrev pub need_of : Action → Option Need
 need_of action.Show = None
 need_of action.Check = Some Mapping
+need_of (action.Owners name) = Some Mapping
+need_of (action.Local name p) = Some Mapping
 need_of action.Run = Some Pipeline
 
 -- the most elements that an array has whose frames run
@@ -42,19 +49,41 @@ most_elements = 65536
 abbrev pub IsLoaded : Option Files → List ℕ → List ℕ → Type 0
 IsLoaded told name text = (all : Files) → told ≡ Some all → HasFront all name (max_text + 1) text
 
--- What comes of a text when this is asked of it: a fault refuses it, or it is to be shown, or what it means refuses it, or it has
--- too many elements to run, or what it declares is to be told, or it is to run.
+-- what comes of a form whose frames are to run: it has too many elements, or it runs
+abbrev pub run_verdict : Form → Verdict
+run_verdict form = if nat_le (elements form.extents) most_elements then Granted (Run form) else Denied (refusal_status not_built)
+
+-- what comes of the mapping whose owners are to be told, and of that whose part is to be: there is none by that name, or
+-- it has no such processor, or it is told
+abbrev pub owners_verdict : Option PlainMapping → Verdict
+owners_verdict None = Denied (status.Usage 2)
+owners_verdict (Some m) = Granted (Owners (owners_text m))
+
+abbrev pub local_verdict : ℕ → Option PlainMapping → Verdict
+local_verdict p None = Denied (status.Usage 2)
+local_verdict p (Some m) =
+    if nat_lt p (product m.procs) then Granted (Local (owned_part m p).indices (held_part m p).indices) else Denied (status.Usage 3)
+
+-- what statements come to that an action does not refuse for what they mean
+abbrev pub Comes : Action → List ItemTree → Verdict → Type 0
+Comes action.Show items verdict = verdict ≡ Granted (Show items)
+Comes action.Check items verdict = verdict ≡ Granted (Check (counts_of items))
+Comes (action.Owners name) items verdict = (m : Option PlainMapping) × IsNamed items name m × (verdict ≡ owners_verdict m)
+Comes (action.Local name p) items verdict = (m : Option PlainMapping) × IsNamed items name m × (verdict ≡ local_verdict p m)
+Comes action.Run items verdict = (form : Form) × IsFormOf items form × (verdict ≡ run_verdict form)
+
+-- What comes of a text when this is asked of it: a fault refuses it, or what it means does, or it comes to what the action makes
+-- of it.
 pub data Judges (asked : Action) (text : List ℕ) (verdict : Verdict) : Type 0 where
   Faulty : (r : MapRefusal) → IsFaultOf text r → verdict ≡ Denied (refusal_status r) → Judges asked text verdict
-  ToShow : asked ≡ action.Show → (items : List ItemTree) → Says text items → verdict ≡ Granted (Show items) → Judges asked text verdict
-  Refused : (need : Need) → need_of asked ≡ Some need → (items : List ItemTree) → Says text items → (r : MapRefusal) → refusal need items ≡ Some r
-      → verdict ≡ Denied (refusal_status r) → Judges asked text verdict
-  TooLong : asked ≡ action.Run → (items : List ItemTree) → Says text items → refusal Pipeline items ≡ None → (form : Form) → IsFormOf items form
-      → most_elements < elements form.extents → verdict ≡ Denied (refusal_status not_built) → Judges asked text verdict
-  ToCheck : asked ≡ action.Check → (items : List ItemTree) → Says text items → refusal Mapping items ≡ None
-      → verdict ≡ Granted (Check (counts_of items)) → Judges asked text verdict
-  ToRun : asked ≡ action.Run → (items : List ItemTree) → Says text items → refusal Pipeline items ≡ None → (form : Form) → IsFormOf items form
-      → elements form.extents ≤ most_elements → verdict ≡ Granted (Run form) → Judges asked text verdict
+  Refused : (items : List ItemTree) → Says text items → (need : Need) → need_of asked ≡ Some need → (r : MapRefusal)
+      → refusal need items ≡ Some r → verdict ≡ Denied (refusal_status r) → Judges asked text verdict
+  Passed : (items : List ItemTree) → Says text items → ((need : Need) → need_of asked ≡ Some need → refusal need items ≡ None)
+      → Comes asked items verdict → Judges asked text verdict
+
+-- statements come to a verdict, whatever text says them
+abbrev pub Decides : Action → List ItemTree → Verdict → Type 0
+Decides asked items verdict = (text : List ℕ) → Says text items → Judges asked text verdict
 
 -- what the words and the text that was loaded come to
 pub data Order (words : List (List ℕ)) (told : Option Files) (verdict : Verdict) : Type 0 where

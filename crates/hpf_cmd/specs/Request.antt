@@ -2,6 +2,8 @@
 use Rattle.std.specs.Prelude.{◌≡◌, ℕ, ℤ, List, [], ◌∷◌, map, Option, Some}
 use Rattle.hpf_frame.specs.FrameFile.{IsFile, elements}
 use Rattle.hpf_map.specs.declared.program.Counts.{Counts}
+use Rattle.hpf_report.specs.LocalText.{local_text}
+use Rattle.hpf_report.specs.OwnersText.{owners_text}
 use Rattle.hpf_syntax.specs.Plain.{ItemTree, item_tree}
 use Rattle.hpf_syntax.specs.Canonical.{canonical}
 use Rattle.hpf_syntax.specs.Parsed.{IsParsed}
@@ -14,22 +16,30 @@ use Rattle.hpf_cmd.specs.MarkLines.{mark_lines}
 use Rattle.hpf_cmd.specs.Parts.{HaveTaken, places}
 use Rattle.hpf_cmd.specs.Pipeline.{one_stage, run_flow}
 
--- the statements whose canonical text is to be shown, the counts that are to be told, or the form whose frames are to run
+-- the statements whose canonical text is to be shown, the counts that are to be told, the text of the owners of an array, the
+-- elements that a processor owns and holds, or the form whose frames are to run
 pub data RequestTree : Type 0 where
   Show : List ItemTree → RequestTree
   Check : Counts → RequestTree
+  Owners : List ℕ → RequestTree
+  Local : (owned held : List (List ℤ)) → RequestTree
   Run : Form → RequestTree
 
 -- what a request of the program asks for
 abbrev pub request_tree : Request → RequestTree
 request_tree (request.Show items) = Show (map item_tree items)
 request_tree (request.Check counts) = Check counts
+request_tree (request.Owners mapping) = Owners (owners_text mapping)
+request_tree (request.Local owned held) = Local owned.indices held.indices
 request_tree (request.Run form) = Run (record { extents = form.extents.items; parts = places form.parts.items })
 
--- the request can be carried out: statements are those of some text, and a form is within its limits and has no mark yet
+-- the request can be carried out: statements are those of some text, parts are of one array, and a form is within its limits and
+-- has no mark yet
 abbrev pub IsMet : Request → Type 0
 IsMet (request.Show items) = IsParsed (map item_tree items)
 IsMet (request.Check counts) = Unit {0}
+IsMet (request.Owners mapping) = Unit {0}
+IsMet (request.Local owned held) = owned.rank ≡ held.rank
 IsMet (request.Run form) = HaveTaken form.extents.items form.parts.items [] × (form.elements ≡ elements form.extents.items)
 
 -- what is done: one text is given to out, and lines behind it to notes; or frames are read, and something is given for each
@@ -40,6 +50,8 @@ pub data Deed : Type 0 where
 abbrev pub deed_of : RequestTree → Deed
 deed_of (Show items) = Print (canonical items) []
 deed_of (Check counts) = Print (counts_text counts) []
+deed_of (Owners text) = Print text []
+deed_of (Local owned held) = Print (local_text owned held) []
 deed_of (Run form) = Stream (run_flow (one_stage form.extents) (mark_lines form.parts))
 
 -- it reads frames

@@ -20,9 +20,10 @@ use crate::status::Status;
 use hpf_io::{Loader, Sink, Source};
 use std::alloc::Global;
 
-/// Does what the words ask for, on one thread. `show MAP` writes the canonical text of the map to `out`. `check MAP`
-/// writes how much the map declares. `run MAP` reads frames from `frames`, writes the frames that leave the pipeline of the map to `out`, and then the marks of its
-/// processors to `notes`. Always returns.
+/// Does what the words ask for, on one thread. `show MAP` writes the canonical text of the map to `out`, `check MAP` how much
+/// it declares, `owners MAP NAME` the owners of each element of an array, and `local MAP NAME --proc N` what a processor holds
+/// of it. `run MAP` reads frames from `frames`, writes the frames that leave the pipeline of the map to `out`, and then the
+/// marks of its processors to `notes`. Always returns.
 pub fn command_one<L: Loader, S: Source, K: Sink, N: Sink>(
     alloc: Global,
     words: &[String],
@@ -43,7 +44,7 @@ pub fn command_one<L: Loader, S: Source, K: Sink, N: Sink>(
 
     // Where nothing of it was begun, nothing but the loader was touched, and for faulty words not even that.
     ensures untouched { (result ≡ Status.LoadFault) ⊎ (result ≡ Status.OutOfMemory) → Untouched frames.old frames.new out.old out.new notes.old notes.new }
-    ensures unasked { (code : ℕ) → result ≡ Status.Usage code → texts.new ≡ texts.old }
+    ensures unasked { (result ≡ Status.Usage 1) ⊎ (result ≡ Status.Usage 9) → texts.new ≡ texts.old }
 
     // The loader.
     ensures load_fault { result ≡ Status.LoadFault

@@ -15,6 +15,7 @@ use crate::print::print_text;
 use crate::request::Request;
 use crate::run::run_form;
 use crate::status::Status;
+use crate::tell::{tell_owners, tell_part};
 use hpf_io::{Sink, Source};
 use hpf_syntax::{Items, print};
 use std::alloc::Global;
@@ -37,6 +38,8 @@ pub(crate) fn perform<S: Source, K: Sink, N: Sink>(
     match request {
         Request::Show(items) => show(alloc, &items, out),
         Request::Check(counts) => tell_counts(counts, out),
+        Request::Owners(mapping) => tell_owners(&mapping, out),
+        Request::Local { owned, held } => tell_part(&owned, &held, out),
         Request::Run(form) => run_form(alloc, form, frames, out, notes),
     }
 }

@@ -7,7 +7,7 @@ ghost use Rattle.hpf_syntax.specs.Plain.{item_tree};
 ghost use Rattle.hpf_cmd.specs.declared.status.Status.{Status};
 ghost use Rattle.hpf_cmd.specs.declared.words.Action.{Action};
 ghost use Rattle.hpf_cmd.specs.Outside.{Rises, Stays};
-ghost use Rattle.hpf_cmd.specs.Order.{Order, Granted, Denied, LoadFails, IsLoaded, Judges};
+ghost use Rattle.hpf_cmd.specs.Order.{Order, Granted, Denied, Decides, LoadFails, IsLoaded, Judges};
 ghost use Rattle.hpf_cmd.specs.Request.{request_tree, IsMet};
 ghost use Rattle.hpf_cmd.specs.Statuses.{IsDenial, IsOfText};
 ghost use Rattle.hpf_words.specs.declared.asked.Asked.{Asked};
@@ -16,12 +16,15 @@ ghost use Rattle.hpf_cmd.specs.Words.{built};
 
 use crate::form::{Form, all_of, form_of};
 use crate::map::items_of;
+use crate::named::mapping_of;
 use crate::status::Status;
 use crate::words::{Action, command_of};
 use hpf_io::Loader;
 use hpf_lex::{MAX_TEXT, MapRefusal};
 use hpf_map::{Counts, Need, resolve};
+use hpf_own::{Held, Mapping};
 use hpf_syntax::Items;
+use hpf_words::Name;
 use std::alloc::Global;
 
 /// What is asked for of a map.
@@ -31,6 +34,10 @@ pub(crate) enum Request {
     Show(Items),
     /// It is told how much the text declares.
     Check(Counts),
+    /// The owners of each element of an array that is mapped so are told.
+    Owners(Mapping),
+    /// It is told what a processor holds of an array, of which it owns a part.
+    Local { owned: Held, held: Held },
     /// Frames run through the pipeline of this form.
     Run(Form),
 }
@@ -67,7 +74,7 @@ pub(crate) fn request_of<L: Loader>(
     ensures counted { result ≢ Err Status.LoadFault → Stays (L.faults texts.old) (L.faults texts.new) }
     ensures same { result ≢ Err Status.LoadFault → L.missed texts.new ≡ L.missed texts.old }
     ensures kept { (all : Files) → L.files texts.new ≡ Some all → L.files texts.old ≡ Some all }
-    ensures unasked { (code : ℕ) → result ≡ Err (Status.Usage code) → texts.new ≡ texts.old }
+    ensures unasked { (result ≡ Err (Status.Usage 1)) ⊎ (result ≡ Err (Status.Usage 9)) → texts.new ≡ texts.old }
 {
     let command = command_of(alloc, words)?;
     let text = texts.load(alloc, command.map, MAX_TEXT)?;
@@ -75,36 +82,70 @@ pub(crate) fn request_of<L: Loader>(
 }
 
 /// What a text comes to for an action.
-fn request_in(alloc: Global, action: Action, text: &[u8]) -> Result<Request, Status>
-    ensures granted { IfOk result (λ request. Judges action text.now (Granted (request_tree request))) }
+fn request_in(alloc: Global, action: Action<'_>, text: &[u8]) -> Result<Request, Status>
+    ensures granted { IfOk result (λ request. Judges action.entry text.now (Granted (request_tree request))) }
     ensures met { IfOk result IsMet }
-    ensures denied { IfErr result (λ status. status ≢ Status.OutOfMemory → Judges action text.now (Denied status)) }
+    ensures denied { IfErr result (λ status. status ≢ Status.OutOfMemory → Judges action.entry text.now (Denied status)) }
     ensures kinds { IfErr result IsOfText }
 {
     let items = items_of(alloc, text)?;
     match action {
         Action::Show => Ok(Request::Show(items)),
         Action::Check => check_of(alloc, &items),
+        Action::Owners { name } => owners_of(alloc, &items, &name),
+        Action::Local { name, processor } => local_of(alloc, &items, &name, processor),
         Action::Run => run_of(alloc, &items),
     }
 }
 
 /// What statements come to that are to be checked.
 fn check_of(alloc: Global, items: &Items) -> Result<Request, Status>
-    ensures granted { IfOk result (λ request. (text : List ℕ) → Says text (map item_tree items.now) → Judges Action.Check text (Granted (request_tree request))) }
+    ensures granted { IfOk result (λ request. Decides Action.Check (map item_tree items.now) (Granted (request_tree request))) }
     ensures met { IfOk result IsMet }
-    ensures denied { IfErr result (λ status. status ≢ Status.OutOfMemory → (text : List ℕ) → Says text (map item_tree items.now) → Judges Action.Check text (Denied status)) }
+    ensures denied { IfErr result (λ status. status ≢ Status.OutOfMemory → Decides Action.Check (map item_tree items.now) (Denied status)) }
     ensures kinds { IfErr result IsOfText }
 {
     let program = resolve(alloc, items, Need::Mapping)?;
     Ok(Request::Check(program.counts()))
 }
 
+/// What statements come to if the owners of an array are to be told.
+fn owners_of(alloc: Global, items: &Items, name: &Name<'_>) -> Result<Request, Status>
+    ensures granted { IfOk result (λ request. Decides (Action.Owners name.now) (map item_tree items.now) (Granted (request_tree request))) }
+    ensures met { IfOk result IsMet }
+    ensures denied { IfErr result (λ status. status ≢ Status.OutOfMemory → Decides (Action.Owners name.now) (map item_tree items.now) (Denied status)) }
+    ensures kinds { IfErr result IsOfText }
+{
+    let mapping = mapping_of(alloc, items, name)?;
+    Ok(Request::Owners(mapping))
+}
+
+/// What statements come to if the part of an array is to be told that a processor holds.
+fn local_of(
+    alloc: Global,
+    items: &Items,
+    name: &Name<'_>,
+    processor: u32,
+) -> Result<Request, Status>
+    ensures granted { IfOk result (λ request. Decides (Action.Local name.now processor) (map item_tree items.now) (Granted (request_tree request))) }
+    ensures met { IfOk result IsMet }
+    ensures denied { IfErr result (λ status. status ≢ Status.OutOfMemory → Decides (Action.Local name.now processor) (map item_tree items.now) (Denied status)) }
+    ensures kinds { IfErr result IsOfText }
+{
+    let mapping = mapping_of(alloc, items, name)?;
+    if processor >= mapping.procs() {
+        return Err(Status::Usage { code: 3 });
+    }
+    let owned = mapping.owned(alloc, processor)?;
+    let held = mapping.held(alloc, processor)?;
+    Ok(Request::Local { owned, held })
+}
+
 /// What statements come to whose frames are to run.
 fn run_of(alloc: Global, items: &Items) -> Result<Request, Status>
-    ensures granted { IfOk result (λ request. (text : List ℕ) → Says text (map item_tree items.now) → Judges Action.Run text (Granted (request_tree request))) }
+    ensures granted { IfOk result (λ request. Decides Action.Run (map item_tree items.now) (Granted (request_tree request))) }
     ensures met { IfOk result IsMet }
-    ensures denied { IfErr result (λ status. status ≢ Status.OutOfMemory → (text : List ℕ) → Says text (map item_tree items.now) → Judges Action.Run text (Denied status)) }
+    ensures denied { IfErr result (λ status. status ≢ Status.OutOfMemory → Decides Action.Run (map item_tree items.now) (Denied status)) }
     ensures kinds { IfErr result IsOfText }
 {
     let program = resolve(alloc, items, Need::Pipeline)?;

@@ -10,24 +10,33 @@ ghost use Rattle.hpf_cmd.specs.Statuses.{IsOfWords};
 ghost use Rattle.hpf_cmd.specs.Words.{Asks, built};
 
 use crate::status::Status;
-use hpf_words::{Asked, one_line, read_words};
+use hpf_words::{Asked, Name, one_line, read_words};
 use std::alloc::Global;
 
 /// What is done with a map.
-#[derive(Clone, Copy, Debug, PartialEq, Eq)]
-pub enum Action {
+#[derive(Debug, Drop)]
+pub enum Action<'a> {
     /// It is told whether it is accepted, and how much it declares.
     Check,
     /// Its canonical text is printed.
     Show,
+    /// The owners of each element of an array are told.
+    Owners {
+        name: Name<'a>,
+    },
+    /// It is told what a processor holds of an array.
+    Local {
+        name: Name<'a>,
+        processor: u32,
+    },
     /// Frames run through its pipeline.
     Run,
 }
 
 /// An action, and the name of the map that it is for.
-#[derive(Clone, Copy, Debug)]
+#[derive(Debug, Drop)]
 pub(crate) struct Command<'a> {
-    pub(crate) action: Action,
+    pub(crate) action: Action<'a>,
     pub(crate) map: &'a str,
 }
 
@@ -45,7 +54,7 @@ pub(crate) fn command_of(alloc: Global, words: &[String]) -> Result<Command<'_>,
     // Words ask for one thing.
     one_line();
     match read_words(alloc, words) {
-        Ok(line) => match built(&line.asked) {
+        Ok(line) => match built(line.asked) {
             Some(action) => Ok(Command {
                 action,
                 map: line.map,
@@ -57,12 +66,14 @@ pub(crate) fn command_of(alloc: Global, words: &[String]) -> Result<Command<'_>,
 }
 
 /// The action that is asked for, where it is built.
-fn built(asked: &Asked<'_>) -> Option<Action>
-    ensures { result ≡ built asked.now }
+fn built<'a>(asked: Asked<'a>) -> Option<Action<'a>>
+    ensures { result ≡ built asked.entry }
 {
     match asked {
         Asked::Check => Some(Action::Check),
         Asked::Show => Some(Action::Show),
+        Asked::Owners { name } => Some(Action::Owners { name }),
+        Asked::Local { name, processor } => Some(Action::Local { name, processor }),
         Asked::Run { .. } => Some(Action::Run),
         _ => None,
     }

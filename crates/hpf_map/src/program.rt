@@ -110,6 +110,16 @@ impl Program {
         }
     }
 
+    /// The same, and nothing else of the program.
+    pub fn into_mapping(self, array: &Word) -> Option<Mapping>
+        ensures { result ≡ mapping_in self array.now }
+    {
+        match self.names.place(array) {
+            Some(n) => taken(self.mappings, n),
+            None => None,
+        }
+    }
+
     /// How many names and lines of each kind there are.
     pub fn counts(&self) -> Counts
         ensures { result ≡ self.now.counts }
@@ -125,5 +135,16 @@ fn mapping_at(mappings: &[Option<Mapping>], n: usize) -> Option<&Mapping>
     match mappings.get(n) {
         Some(Some(mapping)) => Some(mapping),
         _ => None,
+    }
+}
+
+/// The mapping that is listed at a place, taken out of the list.
+fn taken(mut mappings: Vec<Option<Mapping>>, n: usize) -> Option<Mapping>
+    ensures { result ≡ at_place n mappings.items }
+{
+    if n < mappings.len() {
+        mappings.swap_remove(n)
+    } else {
+        None
     }
 }

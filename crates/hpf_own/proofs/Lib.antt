@@ -22,3 +22,5 @@ pub mod Boxes
 pub mod Narrowing
 pub mod Parts
 pub mod Standing
+pub mod Walking
+pub mod Taking

@@ -90,7 +90,7 @@ at_least : (z : ℤ) (k : ℕ) → k < or_zero z → pos (k + 1) ≤ℤ z
 at_least (pos n) k h = omega (arith, ints)
 at_least (negsuc n) k h = absurd (omega arith)
 
-at_most : (z : ℤ) (k : ℕ) → pos (k + 1) ≤ℤ z → k < or_zero z
+pub at_most : (z : ℤ) (k : ℕ) → pos (k + 1) ≤ℤ z → k < or_zero z
 at_most (pos n) k h = omega (arith, ints)
 at_most (negsuc n) k h = absurd (omega (arith, ints))
 

@@ -9,3 +9,5 @@ pub mod OwnerSet
 pub mod Held
 pub mod Side
 pub mod TestRows
+pub mod Walk
+pub mod Members

@@ -1,7 +1,9 @@
 //! The bounds of an array.
 
-ghost use Rattle.std.specs.Prelude.{◌≡◌, ◌<◌, ◌↔◌, ◌≤ℤ◌, length, IsSome, IfSome, Some, slice_get, IsTrue, All};
+ghost use Rattle.std.specs.Prelude.{◌≡◌, ℕ, ◌+◌, ◌<◌, ◌↔◌, ◌≤ℤ◌, true, length, IsSome, IfSome, Some, slice_get, IsTrue, All};
 ghost use Rattle.hpf_own.specs.Lists.{IsBounds};
+ghost use Rattle.hpf_own.specs.Space.{LiesIn};
+ghost use Rattle.hpf_own.specs.Walk.{IsIndexAt};
 
 use hpf_num::Run;
 use std::marker::Model;
@@ -65,6 +67,34 @@ impl Bounds {
         ensures ordered { result.low ≤ℤ result.high }
     {
         self.runs[d as usize]
+    }
+
+    /// Writes the first index of the element order: the lower bound of each dimension.
+    pub fn first_index(&self, into: &mut [i64])
+        requires { length into.old ≡ length self.now }
+        ensures first { IsIndexAt self.now 0 into.new true }
+        ensures lies { LiesIn self.now into.new }
+    {
+        for (d, run) in self.as_slice().iter().enumerate() {
+            into[d] = run.low;
+        }
+    }
+
+    /// Goes on to the next index of the element order, and answers whether there is one. After the last index comes the
+    /// first one again.
+    pub fn next_index(&self, index: &mut [i64]) -> bool
+        requires { LiesIn self.now index.old }
+        ensures next { (k : ℕ) → IsIndexAt self.now k index.old true → IsIndexAt self.now (k + 1) index.new result }
+        ensures lies { LiesIn self.now index.new }
+    {
+        for (d, run) in self.as_slice().iter().enumerate() {
+            if index[d] < run.high {
+                index[d] += 1;
+                return true;
+            }
+            index[d] = run.low;
+        }
+        false
     }
 
     /// The bounds, the first dimension first.

@@ -31,7 +31,8 @@ impl Model for Held {
 impl Held {
     /// The number of dimensions of the array.
     pub fn rank(&self) -> u32
-        ensures { result ≡ self.now.rank }
+        ensures rank { result ≡ self.now.rank }
+        ensures short { result ≤ 7 }
     {
         self.sides.len() as u32
     }

@@ -23,6 +23,7 @@ pub use bounds::Bounds;
 pub use held::Held;
 pub use image::{BaseDim, Cut, Image};
 pub use mapping::Mapping;
+pub use owner_set::OwnerSet;
 pub use perm::Perm;
 pub use procs::Procs;
 pub use sizes::Sizes;

@@ -12,7 +12,7 @@ ghost use Rattle.hpf_own.specs.OwnerSet.{IsSetOf, IsRepeated};
 use crate::base_dims::BaseDims;
 use crate::bounds::Bounds;
 use crate::image::{BaseDim, Cut, Image};
-use crate::owner_set::first_from;
+use crate::owner_set::{OwnerSet, first_from};
 use crate::procs::Procs;
 use crate::sizes::Sizes;
 use crate::widths::Widths;
@@ -163,7 +163,7 @@ impl Mapping {
         requires { LiesIn self.now.bounds index.now }
         ensures { result ≡ next_owner self.now after index.now }
     {
-        let set = self.owner_set(index);
+        let set = self.owner_bits(index);
         match after {
             None => first_from(set, 0),
             Some(p) => first_from(set, p.min(63) + 1),
@@ -175,7 +175,7 @@ impl Mapping {
         requires { LiesIn self.now.bounds index.now }
         ensures { IfOk result (λ procs. procs ≡ owners self.now index.now) }
     {
-        let set = self.owner_set(index);
+        let set = self.owner_bits(index);
         let mut procs = Procs::new(alloc);
         let mut from = 0;
         while let Some(p) = first_from(set, from) {
@@ -185,8 +185,17 @@ impl Mapping {
         Ok(procs)
     }
 
-    /// The owners of the element, as a set.
-    fn owner_set(&self, index: &[i64]) -> u64
+    /// The owners of the element. No memory is taken.
+    pub fn owner_set(&self, index: &[i64]) -> OwnerSet
+        requires { LiesIn self.now.bounds index.now }
+        ensures owners { result ≡ owners self.now index.now }
+        ensures few { length result ≤ 64 }
+    {
+        OwnerSet::new(self.owner_bits(index))
+    }
+
+    /// The owners of the element, as the bits of a number.
+    fn owner_bits(&self, index: &[i64]) -> u64
         requires { LiesIn self.now.bounds index.now }
         ensures owners { IsSetOf (λ p. owns self.now p index.now) (product self.now.procs) result }
         ensures few { product self.now.procs ≤ 64 }

@@ -8,11 +8,11 @@ pub loop-p-preserved : goal.loop-p-preserved
 loop-p-preserved c =
     let m = c.args.self.now in
     let q = λ (p : ℕ). owns m p c.args.index.now in
-    let set = c.owner_set-set.ensures.owners in
+    let set = c.owner_bits-set.ensures.owners in
     let first = c.in-Some.ensures in
-    let here = in_set q (product m.procs) c.owner_set-set.result c.in-Some.p set first.2 in
+    let here = in_set q (product m.procs) c.owner_bits-set.result c.in-Some.p set first.2 in
     let i = c.loop-p.invariant in
-    let before : (k : ℕ) → c.loop-p.from ≤ k → k < c.in-Some.p → owns m k c.args.index.now ≡ false = λ k low high. not_in_set q (product m.procs) c.owner_set-set.result k set (first.3 k low high) (omega (arith, here.0)) in (
+    let before : (k : ℕ) → c.loop-p.from ≤ k → k < c.in-Some.p → owns m k c.args.index.now ≡ false = λ k low high. not_in_set q (product m.procs) c.owner_bits-set.result k set (first.3 k low high) (omega (arith, here.0)) in (
       c.in_ok-push.ensures ∙ ap (λ (ps : List ℕ). ps ++ c.in-Some.p ∷ []) i.0 ∙ sym (filter_more q c.loop-p.from c.in-Some.p first.0 here.1 before),
       omega (arith, here.0),
     )
@@ -21,7 +21,7 @@ pub returns : goal.returns
 returns c =
     let m = c.args.self.now in
     let q = λ (p : ℕ). owns m p c.args.index.now in
-    let set = c.owner_set-set.ensures.owners in
+    let set = c.owner_bits-set.ensures.owners in
     let none = c.in_default.ensures in
     let i = c.loop-p.invariant in
-    i.0 ∙ sym (filter_all q c.loop-p.from (product m.procs) i.1 (λ k low within. not_in_set q (product m.procs) c.owner_set-set.result k set (none k low) within))
+    i.0 ∙ sym (filter_all q c.loop-p.from (product m.procs) i.1 (λ k low within. not_in_set q (product m.procs) c.owner_bits-set.result k set (none k low) within))
