@@ -132,8 +132,9 @@ def show(file: BinaryIO, out: TextIO) -> None:
         print("frame", *values, file=out)
 
 
-def fill(elements: int, frames: int, out: BinaryIO) -> None:
-    out.write(header([elements]))
+def fill(frames: int, extents: list[int], out: BinaryIO) -> None:
+    out.write(header(extents))
+    elements = prod(extents)
     for number in range(counted(frames)):
         values = array("i", ((31 * number + 7 * k) % 65536 - 32768 for k in range(elements)))
         out.write(record(number, values))
@@ -189,9 +190,9 @@ def words() -> argparse.ArgumentParser:
     actions.add_parser("make", help="make < TEXT > FILE makes the file of a text")
     actions.add_parser("show", help="show < FILE > TEXT prints it")
     filled = actions.add_parser(
-        "fill", help="fill ELEMENTS FRAMES > FILE makes so many frames of one dimension, of numbers from -32768 to 32767")
-    filled.add_argument("elements", type=int)
+        "fill", help="fill FRAMES EXTENT .. > FILE makes so many frames of numbers from -32768 to 32767")
     filled.add_argument("frames", type=int)
+    filled.add_argument("extents", type=int, nargs="+", metavar="EXTENT")
     come = actions.add_parser("from-npy", help="from-npy ARRAY > FILE makes the file of a .npy file")
     go = actions.add_parser("to-npy", help="to-npy ARRAY < FILE writes one as a .npy file")
     for action in (come, go):
@@ -214,7 +215,7 @@ def main() -> None:
     elif asked.action == "show":
         show(sys.stdin.buffer, sys.stdout)
     elif asked.action == "fill":
-        fill(asked.elements, asked.frames, sys.stdout.buffer)
+        fill(asked.frames, asked.extents, sys.stdout.buffer)
     elif asked.action == "from-npy":
         from_npy(asked.array, asked.frames, sys.stdout.buffer)
     else:

@@ -262,8 +262,8 @@ class Refused(Room):
                      "extents 1\nframe 2147483648", "extents 1\nextents 1", "extents -1", "word", "extents 4096 4097"):
             self.says(["make"], text.encode())
         self.says(["make"], b"extents 1\nframe \xff")
-        self.says(["fill", "0", "1"])
-        self.says(["fill", "1", "-1"])
+        self.says(["fill", "1", "0"])
+        self.says(["fill", "-1", "1"])
 
 
 if __name__ == "__main__":

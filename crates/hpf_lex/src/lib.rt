@@ -23,6 +23,3 @@ pub use refusal::{Fault, MapError, MapRefusal};
 pub use scan::{MAX_TEXT, tokens};
 pub use token::{Token, TokenKind, Tokens};
 pub use word::Word;
-
-#[cfg(test)]
-mod tests;

@@ -26,6 +26,3 @@ pub use tree::{
     At, Bound, Constant, Declared, Expr, FormatItem, Item, OpItem, SourceItem, Spot, SubItem,
     Value, WidthItem,
 };
-
-#[cfg(test)]
-mod tests;

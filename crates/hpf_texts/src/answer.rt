@@ -1,15 +1,24 @@
 //! What comes of a text.
 
 use crate::elements::owners_in;
+use crate::lexemes::lexemes;
+use crate::text::text_of;
+use crate::trees::statements;
 use anyhow::{Context, Result};
 use hpf_lex::{MapError, tokens};
 use hpf_map::{Need, Program, declared_names, resolve};
-use hpf_syntax::{Items, parse};
+use hpf_syntax::{Items, parse, print};
 use std::alloc::{AllocError, Global};
 
 /// What is asked of a text.
 #[derive(Clone, Copy, Debug)]
 pub enum Asked {
+    /// Its tokens, with their places.
+    Tokens,
+    /// Its statements, with the places of their parts or without.
+    Statements { places: bool },
+    /// Its canonical text.
+    Canonical,
     /// Whether it declares its names well.
     Names,
     /// Whether it has a program.
@@ -18,16 +27,42 @@ pub enum Asked {
     Owners,
 }
 
-/// The answer to what is asked of a text.
-pub fn answer(alloc: Global, asked: Asked, text: &str) -> Result<String> {
+/// The answer to what is asked of the text of a row.
+pub fn answer(alloc: Global, asked: Asked, row: &str) -> Result<String> {
     match asked {
-        Asked::Names => Ok(judged(alloc, judge_names(alloc, text))?),
-        Asked::Program(need) => Ok(judged(alloc, judge(alloc, text, need))?),
+        Asked::Tokens => Ok(told(alloc, tokens_in(alloc, row))?),
+        Asked::Statements { places } => Ok(told(alloc, statements_in(alloc, row, places))?),
+        Asked::Canonical => Ok(told(alloc, canonical_in(alloc, row))?),
+        Asked::Names => Ok(judged(alloc, judge_names(alloc, &text_of(alloc, row)?))?),
+        Asked::Program(need) => Ok(judged(alloc, judge(alloc, &text_of(alloc, row)?, need))?),
         Asked::Owners => {
-            let (text, word) = text.split_once('~').context("a row without a word")?;
-            owners(alloc, text, word)
+            let (row, word) = row.split_once('~').context("a row without a word")?;
+            owners(alloc, &text_of(alloc, row)?, word)
         }
     }
+}
+
+/// The tokens of a text.
+fn tokens_in(alloc: Global, text: &str) -> Result<String, MapError> {
+    let tokens = tokens(alloc, text.as_bytes())?;
+    Ok(lexemes(alloc, tokens.as_slice())?)
+}
+
+/// The statements of a text.
+fn statements_in(alloc: Global, text: &str, places: bool) -> Result<String, MapError> {
+    let items = items(alloc, text)?;
+    Ok(statements(alloc, items.as_slice(), places)?)
+}
+
+/// The canonical text of a text.
+pub fn canonical_in(alloc: Global, text: &str) -> Result<String, MapError> {
+    let items = items(alloc, text)?;
+    let printed = print(alloc, &items)?;
+    let mut canonical = String::new(alloc);
+    for byte in printed.as_slice() {
+        canonical.push(char::from(*byte))?;
+    }
+    Ok(canonical)
 }
 
 /// The owners of the elements of an array of a text, or its refusal.
@@ -67,6 +102,14 @@ pub fn judge(alloc: Global, text: &str, need: Need) -> Result<(), MapError> {
 pub fn judged(alloc: Global, answer: Result<(), MapError>) -> Result<String, AllocError> {
     match answer {
         Ok(()) => String::from_str(alloc, "accepted"),
+        Err(error) => told(alloc, Err(error)),
+    }
+}
+
+/// What a text gives, or its refusal.
+pub fn told(alloc: Global, answer: Result<String, MapError>) -> Result<String, AllocError> {
+    match answer {
+        Ok(given) => Ok(given),
         Err(MapError::Refused(r)) => {
             format!(in alloc; "refused {} at {}:{}", r.code, r.line, r.column)
         }

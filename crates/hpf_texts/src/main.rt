@@ -1,5 +1,5 @@
-//! Resolves the worked texts of the tables, and some texts that are made, and prints for each table how many of its rows
-//! are as they should be, and each row that isn't. Then it tells what processors own or hold under mappings that are made
+//! Reads and resolves the worked texts of the tables, and some texts that are made, and prints for each table how many of
+//! its rows are as they should be, and each row that isn't. Then it tells what processors own or hold under mappings that are made
 //! by hand, each element with its place:
 //!
 //! ```text
@@ -12,12 +12,16 @@
 
 mod answer;
 mod elements;
+mod lexemes;
+mod long;
 mod made;
 mod parts;
 mod table;
 mod text;
+mod trees;
 
 use anyhow::{Context, Result};
+use long::push_long;
 use made::push_made;
 use parts::push_parts;
 use std::alloc::Global;
@@ -36,6 +40,7 @@ fn answers(alloc: Global) -> Result<String> {
     for table in TABLES {
         push_table(alloc, table, &mut answers).context(table.title)?;
     }
+    push_long(alloc, &mut answers)?;
     push_made(alloc, &mut answers)?;
     push_parts(alloc, &mut answers)?;
     Ok(answers)

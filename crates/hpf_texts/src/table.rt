@@ -1,10 +1,12 @@
 //! The tables, and how many of their rows are as they should be.
 
 use crate::answer::{Asked, answer};
-use crate::text::text_of;
 use anyhow::{Context, Result};
 use hpf_map::Need;
+use hpf_vectors::canonical;
 use hpf_vectors::constraints::{DECLARATIONS, DIRECTIVES, NOT_BUILT, OWNERS, PIPELINES};
+use hpf_vectors::grammar;
+use hpf_vectors::tokens;
 use std::alloc::Global;
 
 /// A table: what it is called, what is asked of its texts, and its rows.
@@ -17,6 +19,66 @@ pub struct Table {
 
 /// All tables.
 pub const TABLES: &[Table] = &[
+    Table {
+        title: "tokens of a statement",
+        asked: Asked::Tokens,
+        rows: tokens::STATEMENTS,
+    },
+    Table {
+        title: "comments",
+        asked: Asked::Tokens,
+        rows: tokens::COMMENTS,
+    },
+    Table {
+        title: "ends of lines",
+        asked: Asked::Tokens,
+        rows: tokens::LINE_ENDS,
+    },
+    Table {
+        title: "prefixes",
+        asked: Asked::Tokens,
+        rows: tokens::PREFIXES,
+    },
+    Table {
+        title: "continuations",
+        asked: Asked::Tokens,
+        rows: tokens::CONTINUATIONS,
+    },
+    Table {
+        title: "statements",
+        asked: Asked::Statements { places: false },
+        rows: grammar::ACCEPTED,
+    },
+    Table {
+        title: "statements refused",
+        asked: Asked::Statements { places: false },
+        rows: grammar::REFUSED,
+    },
+    Table {
+        title: "long expressions",
+        asked: Asked::Statements { places: false },
+        rows: grammar::LONG,
+    },
+    Table {
+        title: "places",
+        asked: Asked::Statements { places: true },
+        rows: grammar::PLACES,
+    },
+    Table {
+        title: "canonical statements",
+        asked: Asked::Canonical,
+        rows: canonical::STATEMENTS,
+    },
+    Table {
+        title: "canonical expressions",
+        asked: Asked::Canonical,
+        rows: canonical::EXPRESSIONS,
+    },
+    Table {
+        title: "canonical texts",
+        asked: Asked::Canonical,
+        rows: canonical::TEXTS,
+    },
     Table {
         title: "declarations",
         asked: Asked::Names,
@@ -72,8 +134,7 @@ pub fn push_table(alloc: Global, table: &Table, to: &mut String) -> Result<()> {
 /// Whether a row is as it should be. One that isn't is added.
 fn is_right(alloc: Global, asked: Asked, row: &str, others: &mut String) -> Result<bool> {
     let (question, expected) = row.rsplit_once('~').context("a row without an answer")?;
-    let text = text_of(alloc, question)?;
-    let came = answer(alloc, asked, &text)?;
+    let came = answer(alloc, asked, question)?;
     let right = came.as_str() == expected;
     if !right {
         writeln!(others, "{question:?}: {came}, and not {expected}")?;

@@ -34,9 +34,13 @@
 //! 50 * PIECE        a piece so many times
 //! ```
 
+mod checks;
 mod endings;
 mod lines;
+mod locals;
+mod mappings;
 mod maps;
+mod owners;
 mod runs;
 mod shows;
 mod texts;
@@ -68,8 +72,24 @@ pub const COMMANDS: &[Part] = &[
         rows: maps::ROWS,
     },
     Part {
+        name: "checks",
+        rows: checks::ROWS,
+    },
+    Part {
+        name: "owners",
+        rows: owners::ROWS,
+    },
+    Part {
+        name: "locals",
+        rows: locals::ROWS,
+    },
+    Part {
         name: "runs",
         rows: runs::ROWS,
+    },
+    Part {
+        name: "mappings",
+        rows: mappings::ROWS,
     },
     Part {
         name: "shows",

@@ -92,25 +92,15 @@ words hpfturn M run
 file M @ M13
 input @ F3
 
-# Actions that aren't built
-
-row a plan
-words hpfturn plan M
-file M @ M13
-input @ F3
+# Actions that are, and that aren't built
 
 row a check
 words hpfturn check M
 file M @ M13
 input @ F3
 
-row owners
-words hpfturn owners M A
-file M @ M13
-input @ F3
-
-row a part
-words hpfturn local M A --proc 0
+row a plan
+words hpfturn plan M
 file M @ M13
 input @ F3
 

@@ -1,13 +1,23 @@
-mod canonical;
-mod sizes;
+//! Statements, as the rows of tables show them: a tree with parentheses round the operands of each operator.
 
-use super::*;
-use hpf_lex::{MapError, Word, tokens};
-use hpf_vectors::grammar::{ACCEPTED, LONG, PLACES, REFUSED};
+use hpf_lex::Word;
+use hpf_syntax::{
+    At, Bound, Constant, Declared, Expr, FormatItem, Item, OpItem, SourceItem, Spot, SubItem,
+    Value, WidthItem,
+};
 use std::alloc::{AllocError, Global};
-use std::fmt::Write;
-use std::process::Abort;
-use std::test::Fail;
+
+/// The statements, with the places of their parts where that is asked.
+pub fn statements(alloc: Global, items: &[Item], places: bool) -> Result<String, AllocError> {
+    let mut out = Shown {
+        text: String::new(alloc),
+        places,
+    };
+    for item in items {
+        show_item(&mut out, item)?;
+    }
+    Ok(out.text)
+}
 
 /// What is shown, and whether with places.
 #[derive(Drop)]
@@ -418,54 +428,4 @@ fn show_stage(out: &mut Shown, item: &Item) -> Result<(), AllocError> {
         }
         _ => Ok(()),
     }
-}
-
-/// The statements of a text, or its refusal.
-fn show(alloc: Global, text: &[u8], places: bool) -> Result<String, AllocError> {
-    let mut out = Shown {
-        text: String::new(alloc),
-        places,
-    };
-    match tokens(alloc, text).and_then(|tokens| parse(alloc, &tokens)) {
-        Ok(items) => {
-            for item in items.as_slice() {
-                show_item(&mut out, item)?;
-            }
-        }
-        Err(MapError::Refused(refusal)) => {
-            write!(
-                out.text,
-                "refused {} at {}:{}",
-                refusal.code, refusal.line, refusal.column
-            )?;
-        }
-        Err(MapError::Memory(error)) => return Err(error),
-    }
-    Ok(out.text)
-}
-
-/// Tries each of these rows, and answers how many there are.
-fn try_rows(
-    rt: &(impl Alloc<A = Global> + Abort),
-    rows: &str,
-    places: bool,
-) -> Result<usize, AllocError> {
-    let mut count = 0usize;
-    for row in rows.split('|') {
-        if let Some((text, expected)) = row.split_once('~') {
-            let shown = show(rt.alloc(), text.as_bytes(), places)?;
-            assert_eq!(rt; shown.as_str(), expected, "{text:?}");
-            count = count.saturating_add(1);
-        }
-    }
-    Ok(count)
-}
-
-#[test]
-fn rows(rt: HostRuntime) -> Result<(), Fail> {
-    assert_eq!(rt; try_rows(&rt, ACCEPTED, false)?, 54);
-    assert_eq!(rt; try_rows(&rt, REFUSED, false)?, 108);
-    assert_eq!(rt; try_rows(&rt, LONG, false)?, 15);
-    assert_eq!(rt; try_rows(&rt, PLACES, true)?, 9);
-    Ok(())
 }
