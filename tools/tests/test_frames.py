@@ -12,7 +12,6 @@ import unittest
 import warnings
 from collections.abc import Iterator
 from itertools import product
-from math import prod
 from pathlib import Path
 from unittest import mock
 
