@@ -53,11 +53,18 @@ class Picture:
     panels: Sequence[Panel]
     notes: Sequence[str]
 
-    def legend(self, kinds: Sequence[Kind]) -> list[Cell]:
-        """The different cells of these kinds, without what no legend tells."""
-        cells = {cell for panel in self.panels for row in panel.cells for cell in row if cell.kind in kinds}
+    def different(self) -> list[Cell]:
+        """The different cells in the order of the legend."""
+        cells = {cell for panel in self.panels for row in panel.cells for cell in row}
         order = list(Kind)
         return sorted(cells, key=lambda it: (order.index(it.kind), it.processors))
+
+    def legend(self) -> list[Cell]:
+        """A cell for each of the legend's words."""
+        told: dict[str, Cell] = {}
+        for cell in self.different():
+            told.setdefault(cell.told, cell)
+        return list(told.values())
 
 
 def shade(processor: int) -> tuple[float, float, float]:
@@ -113,12 +120,12 @@ def text(picture: Picture, colours: bool) -> Iterator[str]:
         if k > 0:
             yield ""
         yield from panel_text(panel, colours)
-    told = dict.fromkeys((it.label, it.told) for it in picture.legend([it for it in Kind if it is not Kind.OWNED]))
-    if told or picture.notes:
+    legend = [it for it in picture.legend() if it.kind is not Kind.OWNED]
+    if legend or picture.notes:
         yield ""
-    side = max((len(label) for label, _ in told), default=0)
-    for label, words in told:
-        yield f"  {label:>{side}}  {words}"
+    side = max((len(it.label) for it in legend), default=0)
+    for cell in legend:
+        yield f"  {cell.label:>{side}}  {cell.told}"
     yield from picture.notes
 
 
@@ -184,7 +191,7 @@ class Page:
             y += CELL
 
     def legend(self, y: int) -> Iterator[str]:
-        for cell in self.picture.legend(list(Kind)):
+        for cell in self.picture.legend():
             yield from square(cell, GAP, y, self.wide)
             yield word(GAP + self.wide + 8, y + 16, cell.told, "start")
             y += CELL + 4
@@ -200,12 +207,12 @@ class Page:
             drawn += self.panel(panel, y)
             y += 2 * LINE + CELL * len(panel.rows) + GAP
         drawn += self.legend(y)
-        return drawn, y + (CELL + 4) * len(self.picture.legend(list(Kind))) + LINE * len(self.picture.notes) + GAP
+        return drawn, y + (CELL + 4) * len(self.picture.legend()) + LINE * len(self.picture.notes) + GAP
 
 
 def svg(picture: Picture) -> Iterator[str]:
-    panels, legend = picture.panels, picture.legend(list(Kind))
-    label = max(len(cell.label) for cell in legend)
+    panels, legend = picture.panels, picture.legend()
+    label = max(len(cell.label) for cell in picture.different())
     side = GAP + 6 + LETTER * max(len(it) for panel in panels for it in panel.rows)
     page = Page(picture, side, max(CELL, LETTER * (label + 1)))
     words = [LETTER * len(it) for it in (*(panel.heading for panel in panels), *picture.notes)]
@@ -215,7 +222,7 @@ def svg(picture: Picture) -> Iterator[str]:
     yield (f'<svg xmlns="http://www.w3.org/2000/svg" width="{across}" height="{down}" viewBox="0 0 {across} {down}" '
            f'role="img" font-family="monospace" font-size="11" fill="{INK}">')
     yield f"<title>{escape(', '.join(panel.heading for panel in panels))}</title>"
-    patterns = [it for it in map(pattern, legend) if it]
+    patterns = [it for it in map(pattern, picture.different()) if it]
     if patterns:
         yield f"<defs>{''.join(patterns)}</defs>"
     yield f'<rect width="{across}" height="{down}" fill="{PAPER}"/>'

@@ -9,9 +9,9 @@ import sys
 import tempfile
 import tracemalloc
 import unittest
+import warnings
 from collections.abc import Iterator
 from itertools import product
-from math import prod
 from pathlib import Path
 from unittest import mock
 
@@ -24,7 +24,9 @@ import npy  # noqa: E402
 from npy import Axis, Kind, Order  # noqa: E402
 
 try:
-    import numpy
+    with warnings.catch_warnings():
+        warnings.simplefilter("ignore")
+        import numpy
 except ImportError:
     numpy = None
 
