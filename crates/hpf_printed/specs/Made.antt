@@ -1,9 +1,0 @@
--- What mappings that are made by hand are made of.
-use Rattle.std.specs.Prelude.{ℕ, ℤ, pos}
-use Rattle.hpf_dist.specs.declared.format.Format.{Format}
-use Rattle.hpf_own.specs.declared.image.Cut.{Cut}
-use Rattle.hpf_own.specs.declared.image.Cut.TheVariants.{Over}
-
--- T(high), divided so over a dimension of the arrangement
-abbrev pub over : ℕ → ℤ → ℕ → Format → Cut
-over dim high procs format = Over dim (record { low = pos 1; high = high; procs = procs; format = format })
