@@ -7,12 +7,14 @@ top=$(cd "$(dirname "$0")/.." && pwd)
 room=$(mktemp -d)
 trap 'rm -rf "$room"' EXIT
 
-gcc -O2 -Wall -Wextra -o "$room/yardstick" "$top/tools/yardstick.c"
+for name in yardstick owners local; do
+    gcc -O2 -Wall -Wextra -o "$room/$name" "$top/tools/$name.c"
+done
 
-plain() { "$room/yardstick" "$@" <"$room/frames" >"$room/plain.out" 2>"$room/plain.notes"; }
+plain() { "$room/$1" "${@:2}" <"$room/frames" >"$room/plain.out" 2>"$room/plain.notes"; }
 proved() { "$top/hpfturn" "$@" <"$room/frames" >"$room/proved.out" 2>"$room/proved.notes"; }
 
-# compare TITLE WORD ..: the words of hpfturn, with those of the plain program behind `--`.
+# compare TITLE WORD ..: the words of hpfturn, and behind `--` the plain program of tools/ with its words.
 compare() {
     local title=$1 words=()
     shift
@@ -38,8 +40,14 @@ compare() {
 
 printf '%s\n' 'INTEGER A(65536)' '!HPF$ PROCESSORS P(4)' '!HPF$ DISTRIBUTE A(BLOCK) ONTO P' '!PIPE$ INPUT A' >"$room/map"
 "$top/tools/frames.py" fill 200 65536 >"$room/frames"
-compare "200 frames of 65536 elements on 4 processors" run "$room/map" -- 4
+compare "200 frames of 65536 elements on 4 processors" run "$room/map" -- yardstick 4
 
 printf '%s\n' 'INTEGER A(256,256)' '!HPF$ PROCESSORS P(4,4)' '!HPF$ DISTRIBUTE A(BLOCK,BLOCK) ONTO P' '!PIPE$ INPUT A' >"$room/map"
 "$top/tools/frames.py" fill 50 256 256 >"$room/frames"
-compare "50 frames of 256 by 256 elements on 4 by 4 processors" run "$room/map" -- 4 4
+compare "50 frames of 256 by 256 elements on 4 by 4 processors" run "$room/map" -- yardstick 4 4
+
+printf '%s\n' 'INTEGER A(2048,2048)' '!HPF$ PROCESSORS P(8,8)' '!HPF$ DISTRIBUTE A(BLOCK, CYCLIC(3)) ONTO P' >"$room/map"
+compare "owners of 2048 by 2048 elements on 8 by 8 processors" owners "$room/map" A -- owners 2048 8
+
+printf '%s\n' 'INTEGER A(2048,2048)' '!HPF$ PROCESSORS P(2,2)' '!HPF$ DISTRIBUTE A(BLOCK, BLOCK) ONTO P' '!HPF$ SHADOW A(1,1)' >"$room/map"
+compare "a part of 2048 by 2048 elements on 2 by 2 processors, with its shadow" local "$room/map" A --proc 0 -- local 2048 2
