@@ -38,3 +38,6 @@ pub mod AlignedLemmas
 pub mod ClearLemmas
 pub mod FitLemmas
 pub mod FreeLemmas
+pub mod ShadowLemmas
+pub mod WidthLemmas
+pub mod ShadedLemmas

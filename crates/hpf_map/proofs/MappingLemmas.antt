@@ -1,15 +1,15 @@
 -- The mapping of an array that is made of the shapes of names has the owners that the statements give.
 use Rattle.std.proofs.Common.{◌≡◌, ℕ, zero, suc, ◌<◌, ◌≤◌, Bool, true, false, cond, ◌&&◌, List, [], ◌∷◌, length, map, get_or, All, Option, Some, None, ℤ, arith, sym, ap, ◌∙◌, subst, refl}
-use Rattle.std.specs.Prelude.{IfSome, ◌↔◌, IsTrue, slice_get, option_map, option_and_then, replicate}
+use Rattle.std.specs.Prelude.{IfSome, ◌↔◌, IsTrue, slice_get, option_map, option_and_then}
 use Rattle.std.specs.List.{find}
 use Rattle.std.proofs.lemmas.Bool.{false≢true, and_parts}
 use Rattle.std.proofs.lemmas.List.{length-map}
 use Rattle.std.proofs.lemmas.List.Elements.{All-head, All-tail}
-use Rattle.hpf_own.specs.KeptLists.{no_width}
 use Rattle.hpf_own.specs.Mapping.{PlainMapping}
 use Rattle.hpf_own.specs.Owners.{owns}
 use Rattle.hpf_own.specs.Space.{product, LiesIn}
 use Rattle.hpf_own.specs.declared.image.Image.{Image}
+use Rattle.hpf_own.specs.declared.widths.Width.{Width}
 use Rattle.hpf_syntax.specs.Plain.{FormatTree, ItemTree}
 use Rattle.hpf_syntax.specs.declared.tree.Spot.{Spot}
 use Rattle.hpf_map.specs.declared.name.Dimensions.{Dimensions}
@@ -26,6 +26,8 @@ use Rattle.hpf_map.specs.Known.{known, is_named}
 use Rattle.hpf_map.specs.Landings.{IsLanding}
 use Rattle.hpf_map.specs.Mapped.{CanBeMapped, IsMapped, target_of, CanMap}
 use Rattle.hpf_map.specs.Ownership.{shape_at, sizes_by, Owns, IsMappingOf}
+use Rattle.hpf_map.specs.Shaded.{IsShadow}
+use Rattle.hpf_map.specs.Shadows.{shadow_at}
 use Rattle.hpf_map.specs.Shapes.{extent, extent_limit, max_extent}
 use Rattle.hpf_map.specs.Sound.{IsSoundSpan, IsSoundShape, IsSoundMeaning, AreSoundNames}
 use Rattle.hpf_map.specs.Spaces.{run_of, meaning_shape, fit}
@@ -236,8 +238,9 @@ module _ (names : List Name) (items : List ItemTree) (array base statement : ℕ
       → IsTrue (owns m p index) ↔ Owns names items array p index
 
   -- the mapping that is made of them is that of the array
-  pub shapes_mapping : (m : PlainMapping) → IsMapped shape root arrangement images m → IsMappingOf names items array base statement m
-  shapes_mapping m is =
+  pub shapes_mapping : (shadow : List Width) → IsShadow names items array (length shape) shadow → (m : PlainMapping) → IsMapped shape root arrangement images shadow m
+      → IsMappingOf names items array base statement m
+  shapes_mapping shadow shaded m is =
       let l = can.landing in
       let d = can.distributed in
       let sizes = map extent arrangement in
@@ -247,7 +250,7 @@ module _ (names : List Name) (items : List ItemTree) (array base statement : ℕ
       let cuts = even_cuts d.formats root sizes images m.dims is.dims d.built rank many in
       record {
         bounds = ap (option_map (map run_of)) have.has_shape ∙ ap Some (sym is.bounds);
-        shadow = is.shadow ∙ ap (λ n. replicate n no_width) (sym long);
+        shadow = ap (shadow_at names items array) long ∙ shaded.is ∙ ap Some (sym is.widths);
         procs = is.procs ∙ sym sizes_are;
         owners = λ p index below lies. subst (OwnersAre m) (even_images root sizes images m.dims is.dims images_are.size)
             (λ landing q i under within. owners_are names items array base statement q root sizes d.distributees d.formats d.onto m.dims m i landing d.said have.has_root sizes_are cuts refl is.procs

@@ -36,6 +36,7 @@ use Rattle.hpf_map.specs.Paired.{each_with, at_place}
 use Rattle.hpf_map.specs.Pipeline.{line_of, lines, base_breaches, pipeline_breaches}
 use Rattle.hpf_map.specs.Refusal.{all_breaches}
 use Rattle.hpf_map.specs.Mapped.{IsDistributed}
+use Rattle.hpf_map.specs.Shadows.{shadow_breaches, shadowed_twice_breaches}
 use Rattle.hpf_map.specs.Sound.{AreSoundNames, AreGood, IsSoundShape, IsSoundMeaning}
 use Rattle.hpf_map.specs.Spaces.{meaning_shape, fit, used_as, shape_of}
 use Rattle.hpf_map.specs.Subscripts.{all_subscripts}
@@ -61,6 +62,8 @@ pub record AreNone (need : Need) (items : List ItemTree) : Type 0 where
   pub distributes : flat_map (distribute_breaches (names_of items)) items ≡ []
   pub cycles : flat_map (cycle_breaches (ways_of (names_of items) items)) (first_uses (names_of items) items) ≡ []
   pub pipeline : pipeline_breaches need (names_of items) items ≡ []
+  pub shadows : flat_map (shadow_breaches (names_of items)) items ≡ []
+  pub shadowed : shadowed_twice_breaches (names_of items) items ≡ []
 
 uses_none : (items : List ItemTree) → breaches_in items ≡ [] → flat_map (item_use_breaches (names_of items)) items ≡ []
 unfolding breaches_in
@@ -69,7 +72,9 @@ uses_none items h = others_empty _ _ h
 pub all_none : (need : Need) (items : List ItemTree) → all_breaches need items ≡ [] → AreNone need items
 unfolding all_breaches
 all_none need items h =
-    let e = first_empty _ _ h in
+    let g = first_empty _ _ h in
+    let f = first_empty _ _ g in
+    let e = first_empty _ _ f in
     let d = first_empty _ _ (first_empty _ _ e) in
     let b = first_empty _ _ d in
     record {
@@ -78,7 +83,9 @@ all_none need items h =
       aligns = others_empty _ _ b;
       distributes = others_empty _ _ d;
       cycles = others_empty _ _ e;
-      pipeline = others_empty _ _ h;
+      pipeline = others_empty _ _ f;
+      shadows = others_empty _ _ g;
+      shadowed = others_empty _ _ h;
     }
 
 -- ---- names
@@ -142,7 +149,7 @@ unfolding used_place
 placed names asked word n y used place = rw used place
 
 -- its shape
-same_shape : (names : List Name) (asked : Role) (word : List ℕ) (n : ℕ) (u : IsUsed names asked word n) → shape_of names asked word ≡ name_shape names n
+pub same_shape : (names : List Name) (asked : Role) (word : List ℕ) (n : ℕ) (u : IsUsed names asked word n) → shape_of names asked word ≡ name_shape names n
 same_shape names asked word n u = rw (u.used, u.there) refl
 
 -- a name that stands for an array, a template or an arrangement
@@ -219,7 +226,7 @@ good names n spans sound has = subst (λ o. IfSome o AreGood) has (place_good na
 shape_there : (names : List Name) (n : ℕ) (x : Name) → slice_get names n ≡ Some x → name_shape names n ≡ meaning_shape x.meaning
 shape_there names n x there = rw there refl
 
-contains_get : {A : Type 0} (xs : List A) (k : ℕ) (x : A) → slice_get xs k ≡ Some x → Contains xs x
+pub contains_get : {A : Type 0} (xs : List A) (k : ℕ) (x : A) → slice_get xs k ≡ Some x → Contains xs x
 contains_get [] k x is = absurd (let no : None ≡ Some x = is in cc)
 contains_get (y ∷ xs) zero x is = subst (Contains (y ∷ xs)) (let same : y ≡ x = cc in same) (contains_here y xs)
 contains_get (y ∷ xs) (suc k) x is = contains_later y xs x (contains_get xs k x is)
@@ -303,7 +310,7 @@ fitting_shape count (meaning.List vs) h w s = absurd (false≢true h)
 freely : (names : List Name) (x : Name) → IsFree x → free_shape names x ≡ meaning_shape x.meaning
 freely names x free = rw free.free refl
 
-counted : (count : ℕ) (spot : Spot) (o : Option (List Span)) (spans : List Span) → o ≡ Some spans → count_differs count spot o ≡ [] → count ≡ length spans
+pub counted : (count : ℕ) (spot : Spot) (o : Option (List Span)) (spans : List Span) → o ≡ Some spans → count_differs count spot o ≡ [] → count ≡ length spans
 counted count spot o spans is h =
     let none : breach_if (not (count == length spans)) Rank spot.at ≡ [] = subst (λ s. count_differs count spot s ≡ []) is h in
     eqb-true count (length spans) (turned (count == length spans) (breach_if_none _ _ spot.at none))

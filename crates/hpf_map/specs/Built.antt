@@ -19,7 +19,7 @@ is_plain (Mul at e) = false
 is_plain (Prefix at e) = false
 is_plain (Stencil at e weights) = false
 
--- neither another format, nor a shadow, a stage, buffers or an operation
+-- neither another format, nor a stage, buffers or an operation
 abbrev pub is_built : ItemTree → Bool
 is_built (ImplicitNone at) = true
 is_built (Variables common names) = true
@@ -28,7 +28,7 @@ is_built (Processors names) = true
 is_built (Template names) = true
 is_built (Distribute names formats onto) = list_all is_built_format formats
 is_built (Align names sources base subs) = true
-is_built (Shadow names widths) = false
+is_built (Shadow names widths) = true
 is_built (Input at name buffers op) = is_none buffers && is_plain op
 is_built (Stage at name permute buffers op) = false
 

@@ -5,7 +5,7 @@ use Rattle.hpf_lex.specs.declared.refusal.MapRefusal.{MapRefusal}
 use Rattle.hpf_syntax.specs.declared.tree.At.{At}
 use Rattle.hpf_syntax.specs.declared.tree.Spot.{Spot}
 use Rattle.hpf_map.specs.declared.constraint.Constraint.{Constraint}
-use Rattle.hpf_map.specs.declared.constraint.Constraint.TheVariants.{Twice, Unknown, Kind, Rank, Empty, Limit, NoArrangement, MappedTwice, DummyTwice, NotLinear, Unlike, Outside, Cycle, Pipeline}
+use Rattle.hpf_map.specs.declared.constraint.Constraint.TheVariants.{Twice, Unknown, Kind, Rank, Empty, Limit, NoArrangement, MappedTwice, DummyTwice, NotLinear, Unlike, Outside, Cycle, Shadow, Pipeline}
 
 abbrev pub code_of : Constraint → ℕ
 code_of Twice = 21
@@ -21,6 +21,7 @@ code_of NotLinear = 37
 code_of Unlike = 38
 code_of Outside = 39
 code_of Cycle = 40
+code_of Shadow = 41
 code_of Pipeline = 42
 
 -- the refusal of a text that breaks a constraint at this place

@@ -1,4 +1,4 @@
--- What a text declares, and which of its names, values, shapes and lists break a constraint.
+-- What a text declares, and which of its names, values, shapes, lists and widths break a constraint.
 use Rattle.std.specs.Prelude.{◌≡◌, List, [], ◌++◌, Option, Some, None, Result, Ok, Err, fold}
 use Rattle.std.specs.List.{flat_map}
 use Rattle.hpf_lex.specs.declared.refusal.MapRefusal.{MapRefusal}
@@ -10,6 +10,7 @@ use Rattle.hpf_map.specs.declared.name.Name.{Name}
 use Rattle.hpf_map.specs.Declarations.{threaded, names_after, declaration_breaches}
 use Rattle.hpf_map.specs.Expressions.{directive_breaches}
 use Rattle.hpf_map.specs.Uses.{item_use_breaches}
+use Rattle.hpf_map.specs.Widths.{statement_width_breaches}
 
 -- all names that the statements declare
 unfoldable pub names_of : List ItemTree → List Name
@@ -17,9 +18,10 @@ names_of items = fold names_after [] items
 
 -- the breaches in a statement that speak of what is declared before
 unfoldable pub ordered_breaches : List Name → ItemTree → List MapRefusal
-ordered_breaches before item = directive_breaches before item ++ declaration_breaches before item
+ordered_breaches before item =
+    directive_breaches before item ++ statement_width_breaches before item ++ declaration_breaches before item
 
--- all breaches in names, values, shapes and lists
+-- all breaches in names, values, shapes, lists and widths
 unfoldable pub breaches_in : List ItemTree → List MapRefusal
 breaches_in items = threaded names_after ordered_breaches [] items ++ flat_map (item_use_breaches (names_of items)) items
 

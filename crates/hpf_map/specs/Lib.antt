@@ -14,10 +14,12 @@ pub mod Linear
 pub mod Dummies
 pub mod Subscripts
 pub mod Expressions
+pub mod Widths
 pub mod Spaces
 pub mod Alignments
 pub mod Distributions
 pub mod Ways
+pub mod Shadows
 pub mod Ends
 pub mod Places
 pub mod Pipeline
@@ -26,6 +28,7 @@ pub mod Composed
 pub mod Sound
 pub mod Fit
 pub mod Ownership
+pub mod Shaded
 pub mod Landings
 pub mod Direct
 pub mod Cuts

@@ -1,12 +1,12 @@
 -- The mapping of an array, from its images in its ultimate base and how that is divided.
-use Rattle.std.specs.Prelude.{ℕ, ◌≡◌, ◌<◌, List, length, map, All, replicate, slice_index_or, true, Option, Some, None, slice_get}
+use Rattle.std.specs.Prelude.{ℕ, ◌≡◌, ◌<◌, List, length, map, All, slice_index_or, true, Option, Some, None, slice_get}
 use Rattle.std.specs.List.{list_all}
-use Rattle.hpf_own.specs.KeptLists.{no_width}
 use Rattle.hpf_own.specs.Lists.{IsSizes}
 use Rattle.hpf_own.specs.Mapping.{PlainMapping}
 use Rattle.hpf_own.specs.declared.image.BaseDim.{BaseDim}
 use Rattle.hpf_own.specs.declared.image.Cut.TheVariants.{Whole, Over}
 use Rattle.hpf_own.specs.declared.image.Image.{Image}
+use Rattle.hpf_own.specs.declared.widths.Width.{Width}
 use Rattle.hpf_syntax.specs.declared.tree.Spot.{Spot}
 use Rattle.hpf_syntax.specs.Plain.{FormatTree, ItemTree, Distribute}
 use Rattle.hpf_map.specs.declared.name.Dimensions.{Dimensions}
@@ -57,12 +57,12 @@ pub record CanBeMapped (array root target : List Span) (images : List Image) : T
   pub over : length root ≡ length target
   pub images_are : AreImages array root images
 
--- the mapping of such an array
-pub record IsMapped (array root target : List Span) (images : List Image) (m : PlainMapping) : Type 0 where
+-- the mapping of such an array, with this shadow
+pub record IsMapped (array root target : List Span) (images : List Image) (shadow : List Width) (m : PlainMapping) : Type 0 where
   pub bounds : m.bounds ≡ map run_of array
   pub dims : AreEven root (map extent target) images m.dims
   pub procs : m.procs ≡ map extent target
-  pub shadow : m.shadow ≡ replicate (length array) no_width
+  pub widths : m.shadow ≡ shadow
 
 -- ---- names
 

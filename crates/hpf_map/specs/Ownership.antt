@@ -1,11 +1,10 @@
 -- Who owns the elements of an array, one directive at a time (High Performance Fortran 2.0, Data Mapping, ALIGN and
 -- DISTRIBUTE). A name is its place among the declared ones, from 0, and a statement its place in the text, from 0.
-use Rattle.std.specs.Prelude.{ℕ, ◌≡◌, ◌<◌, List, [], ◌∷◌, map, Bool, true, false, ◌&&◌, ◌==◌, Option, Some, None, option_and_then, option_map, replicate, length, slice_get, Contains, IsTrue, ◌↔◌, ℤ}
+use Rattle.std.specs.Prelude.{ℕ, ◌≡◌, ◌<◌, List, [], ◌∷◌, map, Bool, true, false, ◌&&◌, ◌==◌, Option, Some, None, option_and_then, option_map, length, slice_get, Contains, IsTrue, ◌↔◌, ℤ}
 use Rattle.hpf_dist.specs.Axis.{before}
 use Rattle.hpf_dist.specs.Owner.{own, even_block}
 use Rattle.hpf_dist.specs.declared.format.Format.{Format}
 use Rattle.hpf_own.specs.Image.{positions}
-use Rattle.hpf_own.specs.KeptLists.{no_width}
 use Rattle.hpf_own.specs.Mapping.{PlainMapping}
 use Rattle.hpf_own.specs.Owners as mapping
 use Rattle.hpf_own.specs.Owners.{coordinates}
@@ -19,6 +18,7 @@ use Rattle.hpf_map.specs.declared.way.Way.TheVariants.{Distributed, Aligned}
 use Rattle.hpf_map.specs.Alignments.{images_between}
 use Rattle.hpf_map.specs.Distributions.{target_shape}
 use Rattle.hpf_map.specs.Paired.{inner, at_place}
+use Rattle.hpf_map.specs.Shadows.{shadow_at}
 use Rattle.hpf_map.specs.Shapes.{extent}
 use Rattle.hpf_map.specs.Spaces.{run_of, meaning_shape}
 use Rattle.hpf_map.specs.Subscripts.{all_subscripts}
@@ -100,11 +100,11 @@ pub record Owns (names : List Name) (items : List ItemTree) (array processor : �
   pub distributed : way_at (ways_of names items) base ≡ Distributed statement
   pub owned : owns_by names items statement base processor position ≡ true
 
--- A mapping is that of an array: its bounds, no shadow, the processors of the arrangement onto which its ultimate base is
+-- A mapping is that of an array: its bounds, the widths of its own SHADOW, the processors of the arrangement onto which its ultimate base is
 -- distributed, and of each element the owners that the statements give.
 pub record IsMappingOf (names : List Name) (items : List ItemTree) (array base statement : ℕ) (m : PlainMapping) : Type 0 where
   pub bounds : option_map (map run_of) (shape_at names items array) ≡ Some m.bounds
-  pub shadow : m.shadow ≡ replicate (length m.bounds) no_width
+  pub shadow : shadow_at names items array (length m.bounds) ≡ Some m.shadow
   pub procs : m.procs ≡ sizes_by names items statement
   pub owners : (p : ℕ) (index : List ℤ) → p < product m.procs → LiesIn m.bounds index
       → IsTrue (mapping.owns m p index) ↔ Owns names items array p index

@@ -14,11 +14,12 @@ use Rattle.hpf_map.specs.Layers.{names_of, breaches_in}
 use Rattle.hpf_map.specs.Paired.{each_with}
 use Rattle.hpf_map.specs.Pipeline.{pipeline_breaches}
 use Rattle.hpf_map.specs.Program.{PlainProgram, IsProgram}
+use Rattle.hpf_map.specs.Shadows.{shadow_breaches, shadowed_twice_breaches}
 use Rattle.hpf_map.specs.Subscripts.{all_subscripts}
 use Rattle.hpf_map.specs.Ways.{ways_of, mapped_twice_breaches, first_uses, cycle_breaches}
 
--- all breaches in a text, for what is needed: in names, values, shapes and lists, in alignments, in distributions, of names
--- that are mapped twice or on a cycle, and in the lines of the pipeline
+-- all breaches in a text, for what is needed: in names, values, shapes, lists and widths, in alignments, in distributions, of
+-- names that are mapped twice or on a cycle, in the lines of the pipeline, and of names that are shadowed
 unfoldable pub all_breaches : Need → List ItemTree → List MapRefusal
 all_breaches need items =
     breaches_in items
@@ -27,6 +28,8 @@ all_breaches need items =
     ++ mapped_twice_breaches (names_of items) items
     ++ flat_map (cycle_breaches (ways_of (names_of items) items)) (first_uses (names_of items) items)
     ++ pipeline_breaches need (names_of items) items
+    ++ flat_map (shadow_breaches (names_of items)) items
+    ++ shadowed_twice_breaches (names_of items) items
 
 -- the refusal of a text: that it has a form that isn't built, or else the breach that comes first
 unfoldable pub refusal : Need → List ItemTree → Option MapRefusal

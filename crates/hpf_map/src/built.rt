@@ -36,10 +36,11 @@ fn is_built(item: &Item) -> bool
         | Item::Constants { .. }
         | Item::Processors(_)
         | Item::Template(_)
-        | Item::Align { .. } => true,
+        | Item::Align { .. }
+        | Item::Shadow { .. } => true,
         Item::Distribute { formats, .. } => are_built_formats(formats.as_slice()),
         Item::Input { buffers, op, .. } => buffers.is_none() && matches!(op, OpItem::Plain),
-        Item::Shadow { .. } | Item::Stage { .. } => false,
+        Item::Stage { .. } => false,
     }
 }
 

@@ -34,6 +34,8 @@ pub enum Constraint {
     Outside,
     /// An alignee is aligned with itself, over others or at once.
     Cycle,
+    /// An array has a shadow that an earlier directive gives it, a template has one, or a width is negative.
+    Shadow,
     /// The lines of a pipeline don't go together.
     Pipeline,
 }
@@ -59,6 +61,7 @@ impl Constraint {
             Constraint::Unlike => 38,
             Constraint::Outside => 39,
             Constraint::Cycle => 40,
+            Constraint::Shadow => 41,
             Constraint::Pipeline => 42,
         }
     }

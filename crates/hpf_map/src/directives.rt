@@ -2,10 +2,10 @@
 
 ghost use Rattle.std.specs.Prelude.{◌≡◌, List, Some, map, option_map, IfOk, OnOk};
 ghost use Rattle.std.specs.List.{flat_map};
-ghost use Rattle.hpf_syntax.specs.Plain.{Tree, tree, FormatTree, format_tree, WidthTree, width_tree, op_tree, sub_tree, item_tree};
+ghost use Rattle.hpf_syntax.specs.Plain.{Tree, tree, FormatTree, format_tree, op_tree, sub_tree, item_tree};
 ghost use Rattle.hpf_lex.specs.declared.refusal.MapRefusal.{MapRefusal};
 ghost use Rattle.hpf_map.specs.declared.name.Name.{Name};
-ghost use Rattle.hpf_map.specs.Expressions.{format_breaches, width_breaches, list_breaches, operation_breaches, subscript_name_breaches, align_expression_breaches, directive_breaches};
+ghost use Rattle.hpf_map.specs.Expressions.{format_breaches, list_breaches, operation_breaches, subscript_name_breaches, align_expression_breaches, directive_breaches};
 ghost use Rattle.hpf_map.specs.Found.{least_with};
 ghost use Rattle.hpf_map.specs.Hidden.{hides};
 ghost use Rattle.hpf_map.specs.Subscripts.{is_empty, dummy_breaches, subscripts_of, statement_subscripts};
@@ -19,7 +19,7 @@ use crate::expressions::{expression, test_subscripts};
 use crate::scope::Scope;
 use crate::subscripts::{Subscripts, said};
 use hpf_lex::Word;
-use hpf_syntax::{Expr, FormatItem, Item, List, OpItem, SourceItem, SubItem, WidthItem};
+use hpf_syntax::{Expr, FormatItem, Item, List, OpItem, SourceItem, SubItem};
 use std::alloc::{AllocError, Global};
 use std::collections::BTreeSet;
 
@@ -62,20 +62,6 @@ impl Part for FormatItem {
             }
             FormatItem::Star(_) | FormatItem::GenBlock(..) | FormatItem::Indirect(..) => {}
         }
-    }
-}
-
-impl Part for WidthItem {
-    ghost Tree = { WidthTree };
-
-    ghost tree = { width_tree };
-
-    ghost found = { width_breaches };
-
-    #[tactic(auto, using(crate::proofs::FoundLemmas::least_with_laws), unfolding(crate::specs::Expressions::width_breaches))]
-    fn test(&self, scope: &Scope, breaches: &mut Breaches) {
-        self.low.test(scope, breaches);
-        test_maybe(scope, &self.high, breaches);
     }
 }
 
@@ -205,7 +191,7 @@ fn read_align(
 }
 
 /// What the subscripts of a directive say, where they are free, and the breaches in the expressions of a directive or of
-/// a pipeline line.
+/// a pipeline line, but for the widths of a SHADOW.
 #[tactic(auto, using(crate::proofs::FoundLemmas::least_with_laws), unfolding(crate::specs::Expressions::directive_breaches))]
 pub(crate) fn read_directive(
     alloc: Global,
@@ -222,7 +208,6 @@ pub(crate) fn read_directive(
         Item::Align { sources, subs, .. } => {
             return read_align(alloc, scope, sources, subs, breaches);
         }
-        Item::Shadow { widths, .. } => test_each(scope, widths.as_slice(), breaches),
         Item::Input { buffers, op, .. } => {
             test_maybe(scope, buffers, breaches);
             test_operation(scope, op, breaches);
@@ -241,7 +226,8 @@ pub(crate) fn read_directive(
         | Item::Variables { .. }
         | Item::Constants { .. }
         | Item::Processors(_)
-        | Item::Template(_) => {}
+        | Item::Template(_)
+        | Item::Shadow { .. } => {}
     }
     Ok(None)
 }

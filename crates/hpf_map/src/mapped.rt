@@ -1,13 +1,16 @@
 //! The mapping of an array, from its images in its ultimate base and how that is divided.
 
-ghost use Rattle.std.specs.Prelude.{◌≡◌, ◌<◌, ◌≤◌, ◌^◌, length, map, replicate, All, IfOk, option_copied, slice_get};
+ghost use Rattle.std.specs.Prelude.{◌≡◌, ◌<◌, ◌≤◌, ◌^◌, List, Some, length, map, replicate, All, IfOk, option_copied, slice_get};
 ghost use Rattle.hpf_own.specs.KeptLists.{no_width};
 ghost use Rattle.hpf_own.specs.Lists.{IsBounds, IsSizes};
+ghost use Rattle.hpf_own.specs.Mapping.{IsSmallWidth};
 ghost use Rattle.hpf_syntax.specs.Plain.{item_tree};
 ghost use Rattle.hpf_map.specs.Mapped.{even_dim, AreEven, CanBeEven, CanBeMapped, IsMapped, target_of, CanMap};
-ghost use Rattle.hpf_map.specs.Ownership.{IsMappingOf};
+ghost use Rattle.hpf_map.specs.Ownership.{shape_at, IsMappingOf};
+ghost use Rattle.hpf_map.specs.Shaded.{or_none, IsShadow};
 ghost use Rattle.hpf_map.specs.Shapes.{extent};
 ghost use Rattle.hpf_map.specs.Spaces.{run_of};
+ghost use Rattle.hpf_map.specs.declared.name.Span.{Span};
 
 use crate::cuts::even_axis;
 use crate::distributions::target_shape;
@@ -15,6 +18,7 @@ use crate::landings::{Landing, name_shape};
 use crate::name::{Shape, Span};
 use crate::names::Names;
 use crate::shapes::extent;
+use crate::widths::ShadowWidths;
 use hpf_num::Run;
 use hpf_own::{BaseDim, BaseDims, Bounds, Cut, Image, Mapping, Sizes, Width, Widths};
 use hpf_syntax::Item;
@@ -142,16 +146,40 @@ fn even_dims(alloc: Global, base: EvenBase) -> Result<BaseDims, AllocError>
     Ok(dims)
 }
 
-/// The mapping of an array by its images in its ultimate base, each dimension of which is divided over one of the target.
+/// The widths of a shadow for an array of so many dimensions: those that are given, or else no width.
+fn shadow_of(
+    alloc: Global,
+    given: Option<&ShadowWidths>,
+    rank: usize,
+) -> Result<Widths, AllocError>
+    requires some { 1 ≤ rank }
+    requires few { rank ≤ 7 }
+    requires size { length (or_none rank (option_copied given)) ≡ rank }
+    ensures { IfOk result (λ widths. widths ≡ or_none rank (option_copied given.entry)) }
+{
+    let Some(given) = given else {
+        return no_shadow(alloc, rank);
+    };
+    match Widths::new(given.as_slice()) {
+        Some(widths) => Ok(widths),
+        None => unreachable!(),
+    }
+}
+
+/// The mapping of an array by its images in its ultimate base, each dimension of which is divided over one of the target, with
+/// this shadow.
 fn mapped(
     alloc: Global,
     array: &[Span],
     root: &[Span],
     target: &[Span],
     images: &[Image],
+    shadow: Widths,
 ) -> Result<Mapping, AllocError>
-    requires { CanBeMapped array.now root.now target.now images.now }
-    ensures { IfOk result (λ m. IsMapped array.now root.now target.now images.now m) }
+    requires shapes { CanBeMapped array.now root.now target.now images.now }
+    requires size { length shadow ≡ length array.now }
+    requires small { All IsSmallWidth shadow }
+    ensures { IfOk result (λ m. IsMapped array.now root.now target.now images.now shadow m) }
 {
     let bounds = bounds(alloc, array)?;
     let sizes = sizes(alloc, target)?;
@@ -161,7 +189,6 @@ fn mapped(
         images,
     };
     let dims = even_dims(alloc, base)?;
-    let shadow = no_shadow(alloc, array.len())?;
     Ok(Mapping::new(bounds, dims, sizes, shadow))
 }
 
@@ -185,16 +212,20 @@ fn target_of<'a>(names: &'a Names, items: &[Item], statement: usize) -> Option<&
     }
 }
 
-/// The mapping of an array by where its elements lie in its ultimate base.
+/// The mapping of an array by where its elements lie in its ultimate base, with the widths that are given.
 pub(crate) fn array_mapping(
     alloc: Global,
     names: &Names,
     items: &[Item],
     array: usize,
     landing: &Landing,
+    given: Option<&ShadowWidths>,
 ) -> Result<Mapping, AllocError>
-    requires { CanMap names.now (map item_tree items.now) array landing.now.base landing.now.statement
+    requires can { CanMap names.now (map item_tree items.now) array landing.now.base landing.now.statement
         landing.now.images }
+    requires shadow { (spans : List Span) → shape_at names.now (map item_tree items.now) array ≡ Some spans
+        → IsShadow names.now (map item_tree items.now) array (length spans)
+        (or_none (length spans) (option_copied given)) }
     ensures { IfOk result (λ m. IsMappingOf names.now (map item_tree items.now) array landing.now.base
         landing.now.statement m) }
 {
@@ -207,11 +238,13 @@ pub(crate) fn array_mapping(
     let Some(target) = target_of(names, items, landing.statement) else {
         unreachable!()
     };
+    let shadow = shadow_of(alloc, given, shape.len())?;
     mapped(
         alloc,
         shape,
         root,
         target.as_slice(),
         landing.images.as_slice(),
+        shadow,
     )
 }

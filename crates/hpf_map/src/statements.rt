@@ -1,4 +1,4 @@
-//! The names that a text declares, and the breaches in names, values, shapes and lists.
+//! The names that a text declares, and the breaches in names, values, shapes, lists and widths.
 
 ghost use Rattle.std.specs.Prelude.{◌≡◌, List, [], map, fold, IfOk, OnOk};
 ghost use Rattle.std.specs.List.{flat_map};
@@ -8,6 +8,7 @@ ghost use Rattle.hpf_map.specs.Found.{least_with};
 ghost use Rattle.hpf_map.specs.Layers.{names_of, ordered_breaches, breaches_in, judged, Judges};
 ghost use Rattle.hpf_map.specs.Subscripts.{all_subscripts, statement_subscripts};
 ghost use Rattle.hpf_map.specs.Uses.{item_use_breaches};
+ghost use Rattle.hpf_map.specs.Widths.{all_widths, statement_widths};
 
 use crate::breaches::Breaches;
 use crate::constants::declare_constants;
@@ -19,6 +20,7 @@ use crate::scope::Scope;
 use crate::shapes::MAX_EXTENT;
 use crate::subscripts::Subscripts;
 use crate::uses::test_item;
+use crate::widths::{ShadowWidths, read_widths};
 use hpf_lex::MapError;
 use hpf_syntax::{Bound, Constant, Declared, Item, Items};
 use std::alloc::{AllocError, Global};
@@ -105,34 +107,45 @@ fn declare_item(
     }
 }
 
-/// Reads a statement behind others: its expressions, and then what it declares. Of an ALIGN it gives what the subscripts
-/// say.
+/// What the expressions of a statement say.
+#[derive(Drop)]
+struct Said {
+    /// The subscripts of an ALIGN.
+    subscripts: Option<Subscripts>,
+    /// The widths of a SHADOW.
+    widths: Option<ShadowWidths>,
+}
+
+/// Reads a statement behind others: its expressions, and then what it declares.
 #[tactic(auto, using(crate::proofs::FoundLemmas::least_with_laws), unfolding(crate::specs::Layers::ordered_breaches))]
 fn read_item(
     alloc: Global,
     names: &mut Names,
     item: &Item,
     breaches: &mut Breaches,
-) -> Result<Option<Subscripts>, AllocError>
+) -> Result<Said, AllocError>
     ensures names { OnOk result (names.new ≡ names_after names.old (item_tree item.now)) }
-    ensures said { IfOk result (λ s. s ≡ statement_subscripts names.old (item_tree item.now)) }
+    ensures subscripts { IfOk result (λ s. s.subscripts ≡ statement_subscripts names.old (item_tree item.now)) }
+    ensures widths { IfOk result (λ s. s.widths ≡ statement_widths names.old (item_tree item.now)) }
     ensures breaches { OnOk result (breaches.new ≡ least_with breaches.old
         (ordered_breaches names.old (item_tree item.now))) }
 {
-    let said = read_directive(alloc, &Scope::behind(names), item, breaches)?;
+    let subscripts = read_directive(alloc, &Scope::behind(names), item, breaches)?;
+    let widths = read_widths(alloc, &Scope::behind(names), item, breaches)?;
     declare_item(alloc, names, item, breaches)?;
-    Ok(said)
+    Ok(Said { subscripts, widths })
 }
 
-/// What statements declare, and what the subscripts of each say.
+/// What statements declare, and what the subscripts and the widths of each say.
 #[derive(Drop)]
 pub(crate) struct Statements {
     pub names: Names,
     pub said: Vec<Option<Subscripts>>,
+    pub widths: Vec<Option<ShadowWidths>>,
 }
 
 /// Reads statements one after another.
-#[tactic(auto, using(crate::proofs::FoundLemmas::least_with_laws), unfolding(crate::specs::Subscripts::all_subscripts))]
+#[tactic(auto, using(crate::proofs::FoundLemmas::least_with_laws), unfolding(crate::specs::Subscripts::all_subscripts, crate::specs::Widths::all_widths))]
 fn read_items(
     alloc: Global,
     items: &[Item],
@@ -140,15 +153,23 @@ fn read_items(
 ) -> Result<Statements, AllocError>
     ensures names { IfOk result (λ s. s.names ≡ fold names_after [] (map item_tree items.now)) }
     ensures said { IfOk result (λ s. s.said.items ≡ all_subscripts (map item_tree items.now)) }
+    ensures widths { IfOk result (λ s. s.widths.items ≡ all_widths (map item_tree items.now)) }
     ensures breaches { OnOk result (breaches.new ≡ least_with breaches.old
         (threaded names_after ordered_breaches [] (map item_tree items.now))) }
 {
     let mut names = Names::new(alloc);
     let mut said = Vec::new(alloc);
+    let mut widths = Vec::new(alloc);
     for item in items {
-        said.push(read_item(alloc, &mut names, item, breaches)?)?;
+        let item_said = read_item(alloc, &mut names, item, breaches)?;
+        said.push(item_said.subscripts)?;
+        widths.push(item_said.widths)?;
     }
-    Ok(Statements { names, said })
+    Ok(Statements {
+        names,
+        said,
+        widths,
+    })
 }
 
 /// The names that directives and pipeline lines use.
@@ -162,7 +183,8 @@ fn test_items(names: &Names, items: &[Item], breaches: &mut Breaches)
     }
 }
 
-/// What statements declare and what their subscripts say. The breaches in names, values, shapes and lists are taken in.
+/// What statements declare and what their subscripts and widths say. The breaches in names, values, shapes, lists and widths
+/// are taken in.
 #[tactic(auto, using(crate::proofs::FoundLemmas::least_with_laws), unfolding(crate::specs::Layers::names_of, crate::specs::Layers::breaches_in))]
 pub(crate) fn read_statements(
     alloc: Global,
@@ -171,6 +193,7 @@ pub(crate) fn read_statements(
 ) -> Result<Statements, AllocError>
     ensures names { IfOk result (λ s. s.names ≡ names_of (map item_tree items.now)) }
     ensures said { IfOk result (λ s. s.said.items ≡ all_subscripts (map item_tree items.now)) }
+    ensures widths { IfOk result (λ s. s.widths.items ≡ all_widths (map item_tree items.now)) }
     ensures breaches { OnOk result (breaches.new ≡ least_with breaches.old
         (breaches_in (map item_tree items.now))) }
 {
@@ -180,7 +203,7 @@ pub(crate) fn read_statements(
 }
 
 /// The names that a text declares, each with what its first declaration makes it. The text is refused where one of its
-/// names, values, shapes or lists breaks a constraint, with the breach that comes first by line, column and code.
+/// names, values, shapes, lists or widths breaks a constraint, with the breach that comes first by line, column and code.
 #[tactic(auto, unfolding(crate::specs::Found::least_with))]
 pub fn declared_names(alloc: Global, items: &Items) -> Result<Names, MapError>
     // A text without a breach has exactly its names, and any other has exactly its first breach.

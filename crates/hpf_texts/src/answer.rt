@@ -1,6 +1,7 @@
 //! What comes of a text.
 
 use crate::elements::owners_in;
+use crate::held::held_in;
 use anyhow::{Context, Result};
 use hpf_lex::{MapError, tokens};
 use hpf_map::{Need, Program, declared_names, resolve};
@@ -16,6 +17,8 @@ pub enum Asked {
     Program(Need),
     /// The owners of the elements of an array, whose name follows the text behind `~`.
     Owners,
+    /// What each processor holds of an array, whose name follows the text behind `~`.
+    Held,
 }
 
 /// The answer to what is asked of a text.
@@ -27,6 +30,10 @@ pub fn answer(alloc: Global, asked: Asked, text: &str) -> Result<String> {
             let (text, word) = text.split_once('~').context("a row without a word")?;
             owners(alloc, text, word)
         }
+        Asked::Held => {
+            let (text, word) = text.split_once('~').context("a row without a word")?;
+            held(alloc, text, word)
+        }
     }
 }
 
@@ -34,6 +41,14 @@ pub fn answer(alloc: Global, asked: Asked, text: &str) -> Result<String> {
 pub fn owners(alloc: Global, text: &str, word: &str) -> Result<String> {
     match program(alloc, text, Need::Mapping) {
         Ok(program) => owners_in(alloc, &program, word),
+        Err(error) => Ok(judged(alloc, Err(error))?),
+    }
+}
+
+/// What each processor holds of an array of a text, or its refusal.
+fn held(alloc: Global, text: &str, word: &str) -> Result<String> {
+    match program(alloc, text, Need::Mapping) {
+        Ok(program) => held_in(alloc, &program, word),
         Err(error) => Ok(judged(alloc, Err(error))?),
     }
 }

@@ -5,6 +5,7 @@ use crate::text::text_of;
 use anyhow::{Context, Result};
 use hpf_map::Need;
 use hpf_vectors::constraints::{DECLARATIONS, DIRECTIVES, NOT_BUILT, OWNERS, PIPELINES};
+use hpf_vectors::shadows::{HELD, SHADOWS};
 use std::alloc::Global;
 
 /// A table: what it is called, what is asked of its texts, and its rows.
@@ -46,6 +47,16 @@ pub const TABLES: &[Table] = &[
         title: "owners",
         asked: Asked::Owners,
         rows: OWNERS,
+    },
+    Table {
+        title: "shadows",
+        asked: Asked::Program(Need::Mapping),
+        rows: SHADOWS,
+    },
+    Table {
+        title: "held parts",
+        asked: Asked::Held,
+        rows: HELD,
     },
 ];
 

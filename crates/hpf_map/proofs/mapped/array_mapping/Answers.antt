@@ -1,28 +1,23 @@
-use Rattle.std.proofs.Common.{sym, subst, map}
+use Rattle.std.proofs.Common.{sym, subst, map, length, ap, ◌∙◌}
+use Rattle.std.specs.Prelude.{option_copied}
 use Rattle.hpf_syntax.specs.Plain.{item_tree}
 use Rattle.hpf_map.specs.Mapped.{CanBeMapped, IsMapped}
 use Rattle.hpf_map.specs.Ownership.{IsMappingOf}
+use Rattle.hpf_map.specs.Shaded.{or_none, IsShadow}
 use Rattle.hpf_map.proofs.DirectLemmas.{ok_of}
-use Rattle.hpf_map.proofs.MappingLemmas.{found, shapes_map, shapes_mapping}
+use Rattle.hpf_map.proofs.MappingLemmas.{Shapes, found, shapes_map, shapes_mapping}
 use Rattle.hpf_map.proofs.mapped.array_mapping.Goals as goal
 
+-- what is found of the array, its ultimate base and the arrangement
+have : (c : goal.In-Some-target_of) → Shapes c.args.names.now (map item_tree c.args.items.now) c.args.array c.args.landing.now.base c.args.landing.now.statement
+    c.in-Some.shape.now c.in-Some-name_shape.root.now c.in-Some-target_of.target.now
+have c = ?
+
+pub shadow_of-requires : goal.shadow_of-requires
+shadow_of-requires c = ?
+
 pub mapped-requires : goal.mapped-requires
-mapped-requires c =
-    let have = found c.args.names.now (map item_tree c.args.items.now) c.args.array c.args.landing.now.base c.args.landing.now.statement
-    c.in-Some.shape.now c.in-Some-name_shape.root.now c.in-Some-target_of.target.now c.as_slice.result.now c.in-Some.ensures c.in-Some-name_shape.ensures c.in-Some-target_of.ensures c.as_slice.ensures in
-    subst (CanBeMapped c.in-Some.shape.now c.in-Some-name_shape.root.now c.as_slice.result.now) (sym c.as_slice-2.ensures)
-    (shapes_map c.args.names.now (map item_tree c.args.items.now) c.args.array c.args.landing.now.base c.args.landing.now.statement c.args.landing.now.images
-    c.in-Some.shape.now c.in-Some-name_shape.root.now c.as_slice.result.now c.requires have)
+mapped-requires c = ?
 
 pub returns : goal.returns
-returns c =
-    let items = map item_tree c.args.items.now in
-    let have = found c.args.names.now items c.args.array c.args.landing.now.base c.args.landing.now.statement
-    c.in-Some.shape.now c.in-Some-name_shape.root.now c.in-Some-target_of.target.now c.as_slice.result.now c.in-Some.ensures c.in-Some-name_shape.ensures c.in-Some-target_of.ensures c.as_slice.ensures in
-    ok_of (IsMapped c.in-Some.shape.now c.in-Some-name_shape.root.now c.as_slice.result.now c.as_slice-2.result.now)
-    (IsMappingOf c.args.names.now items c.args.array c.args.landing.now.base c.args.landing.now.statement)
-    (λ m is.
-    shapes_mapping c.args.names.now items c.args.array c.args.landing.now.base c.args.landing.now.statement c.args.landing.now.images
-    c.in-Some.shape.now c.in-Some-name_shape.root.now c.as_slice.result.now c.requires have m
-    (subst (λ images. IsMapped c.in-Some.shape.now c.in-Some-name_shape.root.now c.as_slice.result.now images m) c.as_slice-2.ensures is))
-    c.mapped.result c.mapped.ensures
+returns c = ?
