@@ -34,7 +34,6 @@ use Rattle.hpf_map.specs.Paired.{at_place}
 use Rattle.hpf_map.specs.Sound.{IsInRange}
 use Rattle.hpf_map.specs.Subscripts.{constant_of, linear_subscript, triplet_of, part, subscript_of, maybe_form_breaches, subscript_form_breaches, is_empty, dummy_breaches, said as told, subscripts_of, forms_breaches, statement_subscripts, all_subscripts}
 use Rattle.hpf_map.specs.Uses.{use_breaches, name_breaches, maybe_name_breaches, subscript_breaches, dummies}
-use Rattle.hpf_map.specs.Widths.{statement_width_breaches}
 use Rattle.hpf_map.specs.Values.{in_range, ranged, word_value}
 use Rattle.hpf_map.proofs.EmptyLemmas.{first_empty, others_empty, breach_if_none}
 use Rattle.hpf_map.specs.Fit.{IsFit, AreFit}
@@ -392,7 +391,7 @@ item_said : (before : List name.Name) → All IsUsable before → (item : ItemTr
 unfolding ordered_breaches directive_breaches
 item_said before h item alignees sources base subs is none =
     subst (λ i. directive_breaches before i ≡ [] → (said : List Subscript) × (statement_subscripts before i ≡ Some said) × AreFit sources said × Counted subs said) (sym is)
-    (align_said before h sources subs) (first_empty (directive_breaches before item) (statement_width_breaches before item) (first_empty (directive_breaches before item ++ statement_width_breaches before item) (declaration_breaches before item) none))
+    (align_said before h sources subs) (first_empty (directive_breaches before item) (declaration_breaches before item) none)
 
 said_at : (items : List ItemTree) (before : List name.Name) → All IsReady before → threaded names_after ordered_breaches before items ≡ [] → (k : ℕ) (alignees : List Spot)
     (sources : Option (List SourceItem)) (base : Spot) (subs : Option (List SubTree)) → slice_get items k ≡ Some (Align alignees sources base subs)

@@ -31,7 +31,6 @@ use Rattle.hpf_map.specs.Layers.{names_of, ordered_breaches, breaches_in}
 use Rattle.hpf_map.specs.Shapes.{extent, extent_limit, max_extent, max_bounds, is_oversized, bound_place, order_breaches, span_within, both, found_order, low_value, span, bound_breaches, first_of_more, shape, shape_breaches}
 use Rattle.hpf_map.specs.Sound.{IsInRange}
 use Rattle.hpf_map.specs.Uses.{suits, use_breaches, name_breaches, nothing_hidden}
-use Rattle.hpf_map.specs.Widths.{statement_width_breaches}
 use Rattle.hpf_map.specs.Values.{greatest, in_range, ranged, operation, combined, leaves, constant_value, word_value, value, operator_breaches, expression_breaches, maybe_expression_breaches}
 use Rattle.hpf_map.proofs.EmptyLemmas.{first_empty, others_empty, breach_if_none, threaded_keeps}
 use Rattle.hpf_map.specs.Fit.{IsWhole, IsFree}
@@ -353,7 +352,7 @@ after_ready before (Stage at name permute buffers op) h none = h
 -- each statement without a breach leaves names without one
 pub item_ready : (before : List name.Name) (item : ItemTree) → All IsReady before → ordered_breaches before item ≡ [] → All IsReady (names_after before item)
 unfolding ordered_breaches
-item_ready before item h none = after_ready before item h (others_empty (directive_breaches before item ++ statement_width_breaches before item) (declaration_breaches before item) none)
+item_ready before item h none = after_ready before item h (others_empty (directive_breaches before item) (declaration_breaches before item) none)
 
 pub names_free : (items : List ItemTree) → breaches_in items ≡ [] → All IsFree (names_of items)
 unfolding names_of breaches_in

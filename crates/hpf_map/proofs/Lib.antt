@@ -39,5 +39,5 @@ pub mod ClearLemmas
 pub mod FitLemmas
 pub mod FreeLemmas
 pub mod ShadowLemmas
-pub mod WidthLemmas
+pub mod ShadowWidthLemmas
 pub mod ShadedLemmas

@@ -180,6 +180,16 @@ found names items array base statement shape root arrangement seen first last on
   has_target = sym onto ∙ ap Some (sym same);
 }
 
+-- the shape of an array that can be mapped
+pub array_sound : (names : List Name) (items : List ItemTree) (array base statement : ℕ) (images : List Image) → CanMap names items array base statement images → (shape : List Span)
+    → shape_at names items array ≡ Some shape → IsShapeOf space.Array shape
+array_sound names items array base statement images can shape has =
+    let d = can.is_array.dimensions in
+    let sound : IsSoundMeaning can.name.meaning = at_name (λ n. IsSoundMeaning n.meaning) names array can.name can.sound can.named in
+    let there : option_and_then (λ n. meaning_shape n.meaning) (Some can.name) ≡ Some shape = sym (ap (option_and_then (λ (n : Name). meaning_shape n.meaning)) can.named) ∙ has in
+    let is : d.shape ≡ Some shape = sym (ap meaning_shape can.is_array.is) ∙ there in
+    if_some (IsShapeOf space.Array) d.shape shape (shaped space.Array d (subst IsSoundMeaning can.is_array.is sound)) is
+
 module _ (names : List Name) (items : List ItemTree) (array base statement : ℕ) (images : List Image) (shape root arrangement : List Span)
     (can : CanMap names items array base statement images) (have : Shapes names items array base statement shape root arrangement) where
   is_root : can.distributed.root ≡ root
@@ -198,12 +208,7 @@ module _ (names : List Name) (items : List ItemTree) (array base statement : ℕ
   over = sym rank ∙ sym (all_divided can.distributed.formats can.distributed.built) ∙ can.distributed.over ∙ ap length is_target
 
   array_is : IsShapeOf space.Array shape
-  array_is =
-      let d = can.is_array.dimensions in
-      let sound : IsSoundMeaning can.name.meaning = at_name (λ n. IsSoundMeaning n.meaning) names array can.name can.sound can.named in
-      let there : option_and_then (λ n. meaning_shape n.meaning) (Some can.name) ≡ Some shape = sym (ap (option_and_then (λ (n : Name). meaning_shape n.meaning)) can.named) ∙ have.has_shape in
-      let is : d.shape ≡ Some shape = sym (ap meaning_shape can.is_array.is) ∙ there in
-      if_some (IsShapeOf space.Array) d.shape shape (shaped space.Array d (subst IsSoundMeaning can.is_array.is sound)) is
+  array_is = array_sound names items array base statement images can shape have.has_shape
 
   root_is : AreSoundSpans root
   root_is = if_some AreSoundSpans (shape_at names items base) root (by (slice_get names base) refl) have.has_root where

@@ -23,15 +23,15 @@ use Rattle.hpf_map.specs.Ownership.{shape_at}
 use Rattle.hpf_map.specs.Paired.{at_place}
 use Rattle.hpf_map.specs.Refusal.{all_breaches}
 use Rattle.hpf_map.specs.Shaded.{given_by, or_none, IsShadow, AreShadows}
-use Rattle.hpf_map.specs.Shadows.{shadowed_breaches, shadow_breaches, shadow_use, statement_shadow_uses, shadow_uses_from, shadow_uses, first_among, widths_by, first_shadow, shadow_at}
+use Rattle.hpf_map.specs.Shadows.{shadowed_breaches, shadow_breaches, shadow_use, statement_shadow_uses, shadow_uses_from, shadow_uses, first_among, shadows_breaches, widths_by, first_shadow, shadow_at}
 use Rattle.hpf_map.specs.Spaces.{shape_of}
 use Rattle.hpf_map.specs.Ways.{used_place}
-use Rattle.hpf_map.specs.Widths.{all_widths}
+use Rattle.hpf_map.specs.ShadowWidths.{all_shadow_widths}
 use Rattle.hpf_map.proofs.ChoiceLemmas.{contains_here, contains_later, contains_none}
-use Rattle.hpf_map.proofs.EmptyLemmas.{others_empty, each_empty}
+use Rattle.hpf_map.proofs.EmptyLemmas.{first_empty, others_empty, each_empty}
 use Rattle.hpf_map.proofs.FirstUseLemmas.{found_of}
 use Rattle.hpf_map.proofs.UnbrokenLemmas.{AreNone, all_none, used_is, same_shape, counted, contains_get}
-use Rattle.hpf_map.proofs.WidthLemmas.{AreThere, widths_there}
+use Rattle.hpf_map.proofs.ShadowWidthLemmas.{AreThere, widths_there}
 
 -- ---- the statement with the first SHADOW of an array
 
@@ -120,25 +120,25 @@ module _ (need : Need) (items : List ItemTree) (none : AreNone need items) where
   names = names_of items
 
   -- they are as many as the array has dimensions
-  first_there : (n k : ℕ) (spans : List Span) → first_shadow names items n ≡ Some k → shape_at names items n ≡ Some spans → AreThere (length spans) (at_place k (all_widths items))
-  unfolding shadow_breaches
+  first_there : (n k : ℕ) (spans : List Span) → first_shadow names items n ≡ Some k → shape_at names items n ≡ Some spans → AreThere (length spans) (at_place k (all_shadow_widths items))
+  unfolding shadow_breaches shadows_breaches
   first_there n k spans first has =
       let s : IsShadowed names items n k = shadowed_by names items n k first in
       let u = used_is names Array s.spot.word n s.name in
-      let own : shadow_breaches names (Shadow s.shadowed s.widths) ≡ [] = each_empty (shadow_breaches names) items none.shadows _ (contains_get items k _ s.said) in
+      let own : shadow_breaches names (Shadow s.shadowed s.widths) ≡ [] = each_empty (shadow_breaches names) items (first_empty _ _ none.shadows) _ (contains_get items k _ s.said) in
       let told : shadowed_breaches names (length s.widths) s.spot ≡ [] = each_empty (shadowed_breaches names (length s.widths)) s.shadowed own s.spot s.stands in
       let count : length s.widths ≡ length spans = counted (length s.widths) s.spot (shape_of names Array s.spot.word) spans (same_shape names Array s.spot.word n u ∙ has) (others_empty _ _ told) in
-      subst (λ size. AreThere size (at_place k (all_widths items))) count (widths_there items k s.shadowed s.widths none.layers s.said)
+      subst (λ size. AreThere size (at_place k (all_shadow_widths items))) count (widths_there items k s.shadowed s.widths none.layers s.said)
 
   shadow_is : (n rank : ℕ) (o : Option ℕ) → first_shadow names items n ≡ o → shadow_at names items n rank ≡ widths_by items rank o
   unfolding shadow_at
   shadow_is n rank o e = ap (widths_by items rank) e
 
   -- the widths of an array are those that are found
-  shadow_found : (widths : List (Option (List Width))) (first : BTreeMap ℕ ℕ) → widths ≡ all_widths items → ((n : ℕ) → get nat_cmp first n ≡ first_shadow names items n)
+  shadow_found : (widths : List (Option (List Width))) (first : BTreeMap ℕ ℕ) → widths ≡ all_shadow_widths items → ((n : ℕ) → get nat_cmp first n ≡ first_shadow names items n)
       → (n : ℕ) (spans : List Span) → shape_at names items n ≡ Some spans → IsShadow names items n (length spans) (or_none (length spans) (given_by widths first n))
   shadow_found widths first widths_are first_are n spans has = by (first_shadow names items n) refl where
-    given : (o : Option ℕ) → first_shadow names items n ≡ o → given_by widths first n ≡ option_and_then (λ k. at_place k (all_widths items)) o
+    given : (o : Option ℕ) → first_shadow names items n ≡ o → given_by widths first n ≡ option_and_then (λ k. at_place k (all_shadow_widths items)) o
     given o e = ap (option_and_then (λ k. at_place k widths)) (first_are n ∙ e) ∙ ap (λ ws. option_and_then (λ k. at_place k ws) o) widths_are
 
     by : (o : Option ℕ) → first_shadow names items n ≡ o → IsShadow names items n (length spans) (or_none (length spans) (given_by widths first n))
@@ -153,5 +153,5 @@ module _ (need : Need) (items : List ItemTree) (none : AreNone need items) where
         (record { is = shadow_is n (length spans) (Some k) e ∙ r.is; size = r.size; small = r.small })
 
 pub shadows_are : (need : Need) (items : List ItemTree) (widths : List (Option (List Width))) (first : BTreeMap ℕ ℕ) → all_breaches need items ≡ []
-    → widths ≡ all_widths items → ((n : ℕ) → get nat_cmp first n ≡ first_shadow (names_of items) items n) → AreShadows items widths first
+    → widths ≡ all_shadow_widths items → ((n : ℕ) → get nat_cmp first n ≡ first_shadow (names_of items) items n) → AreShadows items widths first
 shadows_are need items widths first nothing widths_are first_are = record { each = shadow_found need items (all_none need items nothing) widths first widths_are first_are }

@@ -115,7 +115,7 @@ all_grown before (u ∷ uses) = all_grown (before ++ u ∷ []) uses ∙ append_a
 
 -- What is found of the first uses, and their breaches.
 pub record AreFound (uses : List ShadowUse) (i : ℕ) (first : BTreeMap ℕ ℕ) (h0 h1 : Option MapRefusal) : Type 0 where
-  pub first : HasFirst (take i uses) first
+  pub statements : HasFirst (take i uses) first
   pub breaches : h1 ≡ least_with h0 (threaded grown again_breaches [] (take i uses))
 
 pub AreFound-more : (uses : List ShadowUse) (i : ℕ) (first after : BTreeMap ℕ ℕ) (h0 h1 h2 : Option MapRefusal) → AreFound uses i first h0 h1 → i < length uses
@@ -126,7 +126,7 @@ AreFound-more uses i first after h0 h1 h2 found below has step =
     let is : used ≡ get_or uses i used = get_or_default uses i _ _ below in
     let more : take (i + 1) uses ≡ take i uses ++ used ∷ [] = take_more uses i used below ∙ ap (λ y. take i uses ++ y ∷ []) (sym is) in
     record {
-      first = subst (λ us. HasFirst us after) (sym more) has;
+      statements = subst (λ us. HasFirst us after) (sym more) has;
       breaches =
           step ∙ ap (λ us. least_with h1 (again_breaches us used)) (sym (all_grown [] (take i uses)))
           ∙ ap (λ k. least_with k (again_breaches (fold grown [] (take i uses)) used)) found.breaches

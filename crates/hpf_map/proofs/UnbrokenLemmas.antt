@@ -36,7 +36,7 @@ use Rattle.hpf_map.specs.Paired.{each_with, at_place}
 use Rattle.hpf_map.specs.Pipeline.{line_of, lines, base_breaches, pipeline_breaches}
 use Rattle.hpf_map.specs.Refusal.{all_breaches}
 use Rattle.hpf_map.specs.Mapped.{IsDistributed}
-use Rattle.hpf_map.specs.Shadows.{shadow_breaches, shadowed_twice_breaches}
+use Rattle.hpf_map.specs.Shadows.{shadows_breaches}
 use Rattle.hpf_map.specs.Sound.{AreSoundNames, AreGood, IsSoundShape, IsSoundMeaning}
 use Rattle.hpf_map.specs.Spaces.{meaning_shape, fit, used_as, shape_of}
 use Rattle.hpf_map.specs.Subscripts.{all_subscripts}
@@ -62,8 +62,7 @@ pub record AreNone (need : Need) (items : List ItemTree) : Type 0 where
   pub distributes : flat_map (distribute_breaches (names_of items)) items ≡ []
   pub cycles : flat_map (cycle_breaches (ways_of (names_of items) items)) (first_uses (names_of items) items) ≡ []
   pub pipeline : pipeline_breaches need (names_of items) items ≡ []
-  pub shadows : flat_map (shadow_breaches (names_of items)) items ≡ []
-  pub shadowed : shadowed_twice_breaches (names_of items) items ≡ []
+  pub shadows : shadows_breaches (names_of items) items ≡ []
 
 uses_none : (items : List ItemTree) → breaches_in items ≡ [] → flat_map (item_use_breaches (names_of items)) items ≡ []
 unfolding breaches_in
@@ -72,8 +71,7 @@ uses_none items h = others_empty _ _ h
 pub all_none : (need : Need) (items : List ItemTree) → all_breaches need items ≡ [] → AreNone need items
 unfolding all_breaches
 all_none need items h =
-    let g = first_empty _ _ h in
-    let f = first_empty _ _ g in
+    let f = first_empty _ _ h in
     let e = first_empty _ _ f in
     let d = first_empty _ _ (first_empty _ _ e) in
     let b = first_empty _ _ d in
@@ -84,8 +82,7 @@ all_none need items h =
       distributes = others_empty _ _ d;
       cycles = others_empty _ _ e;
       pipeline = others_empty _ _ f;
-      shadows = others_empty _ _ g;
-      shadowed = others_empty _ _ h;
+      shadows = others_empty _ _ h;
     }
 
 -- ---- names

@@ -3,8 +3,9 @@ use Rattle.std.specs.Prelude.{ℕ, Bool, List, [], ◌++◌, Option, Some, None}
 use Rattle.std.specs.List.{flat_map}
 use Rattle.hpf_lex.specs.declared.refusal.MapRefusal.{MapRefusal}
 use Rattle.hpf_syntax.specs.declared.tree.SourceItem.{SourceItem}
-use Rattle.hpf_syntax.specs.Plain.{Tree, FormatTree, Block, Cyclic, SubTree, OpTree, Plain, Add, Mul, Prefix, Stencil, ItemTree, Distribute, Align, Input, Stage}
+use Rattle.hpf_syntax.specs.Plain.{Tree, FormatTree, Block, Cyclic, SubTree, OpTree, Plain, Add, Mul, Prefix, Stencil, ItemTree, Distribute, Align, Shadow, Input, Stage}
 use Rattle.hpf_map.specs.declared.name.Name.{Name}
+use Rattle.hpf_map.specs.ShadowWidths.{width_breaches}
 use Rattle.hpf_map.specs.Subscripts.{dummy_breaches, forms_breaches}
 use Rattle.hpf_map.specs.Uses.{subscript_breaches, dummies}
 use Rattle.hpf_map.specs.Values.{expression_breaches, maybe_expression_breaches}
@@ -39,10 +40,11 @@ module _ (before : List Name) where
   align_expression_breaches hides sources subs =
       subscript_name_breaches hides subs ++ forms_breaches before hides subs ++ dummy_breaches hides sources subs
 
-  -- all expressions of a statement that declares nothing, but for the widths of a SHADOW
+  -- all expressions of a statement that declares nothing
   unfoldable pub directive_breaches : ItemTree → List MapRefusal
   directive_breaches (Distribute names formats onto) = flat_map format_breaches formats
   directive_breaches (Align names sources base subs) = align_expression_breaches (dummies sources) sources subs
+  directive_breaches (Shadow names widths) = flat_map (width_breaches before) widths
   directive_breaches (Input at name buffers op) = maybe_expression_breaches before buffers ++ operation_breaches op
   directive_breaches (Stage at name permute buffers op) =
       list_breaches permute ++ maybe_expression_breaches before buffers ++ operation_breaches op

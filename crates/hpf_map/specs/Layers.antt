@@ -10,7 +10,6 @@ use Rattle.hpf_map.specs.declared.name.Name.{Name}
 use Rattle.hpf_map.specs.Declarations.{threaded, names_after, declaration_breaches}
 use Rattle.hpf_map.specs.Expressions.{directive_breaches}
 use Rattle.hpf_map.specs.Uses.{item_use_breaches}
-use Rattle.hpf_map.specs.Widths.{statement_width_breaches}
 
 -- all names that the statements declare
 unfoldable pub names_of : List ItemTree → List Name
@@ -18,8 +17,7 @@ names_of items = fold names_after [] items
 
 -- the breaches in a statement that speak of what is declared before
 unfoldable pub ordered_breaches : List Name → ItemTree → List MapRefusal
-ordered_breaches before item =
-    directive_breaches before item ++ statement_width_breaches before item ++ declaration_breaches before item
+ordered_breaches before item = directive_breaches before item ++ declaration_breaches before item
 
 -- all breaches in names, values, shapes, lists and widths
 unfoldable pub breaches_in : List ItemTree → List MapRefusal

@@ -14,7 +14,7 @@ pub mod Linear
 pub mod Dummies
 pub mod Subscripts
 pub mod Expressions
-pub mod Widths
+pub mod ShadowWidths
 pub mod Spaces
 pub mod Alignments
 pub mod Distributions

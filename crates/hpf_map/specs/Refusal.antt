@@ -14,7 +14,7 @@ use Rattle.hpf_map.specs.Layers.{names_of, breaches_in}
 use Rattle.hpf_map.specs.Paired.{each_with}
 use Rattle.hpf_map.specs.Pipeline.{pipeline_breaches}
 use Rattle.hpf_map.specs.Program.{PlainProgram, IsProgram}
-use Rattle.hpf_map.specs.Shadows.{shadow_breaches, shadowed_twice_breaches}
+use Rattle.hpf_map.specs.Shadows.{shadows_breaches}
 use Rattle.hpf_map.specs.Subscripts.{all_subscripts}
 use Rattle.hpf_map.specs.Ways.{ways_of, mapped_twice_breaches, first_uses, cycle_breaches}
 
@@ -28,8 +28,7 @@ all_breaches need items =
     ++ mapped_twice_breaches (names_of items) items
     ++ flat_map (cycle_breaches (ways_of (names_of items) items)) (first_uses (names_of items) items)
     ++ pipeline_breaches need (names_of items) items
-    ++ flat_map (shadow_breaches (names_of items)) items
-    ++ shadowed_twice_breaches (names_of items) items
+    ++ shadows_breaches (names_of items) items
 
 -- the refusal of a text: that it has a form that isn't built, or else the breach that comes first
 unfoldable pub refusal : Need → List ItemTree → Option MapRefusal

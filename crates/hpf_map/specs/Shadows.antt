@@ -20,7 +20,7 @@ use Rattle.hpf_map.specs.Distributions.{count_differs}
 use Rattle.hpf_map.specs.Paired.{at_place}
 use Rattle.hpf_map.specs.Spaces.{used_as, shape_of}
 use Rattle.hpf_map.specs.Ways.{used_place}
-use Rattle.hpf_map.specs.Widths.{all_widths}
+use Rattle.hpf_map.specs.ShadowWidths.{all_shadow_widths}
 
 -- ---- names in SHADOW
 
@@ -73,11 +73,15 @@ again_breaches earlier used = breach_if (is_some (first_among earlier used.name)
 -- they are free, and no width where there is none.
 abbrev pub widths_by : List ItemTree → ℕ → Option ℕ → Option (List Width)
 widths_by items rank None = Some (replicate rank no_width)
-widths_by items rank (Some statement) = at_place statement (all_widths items)
+widths_by items rank (Some statement) = at_place statement (all_shadow_widths items)
 
 module _ (names : List Name) (items : List ItemTree) where
   unfoldable pub shadowed_twice_breaches : List MapRefusal
   shadowed_twice_breaches = threaded (λ earlier used. earlier ++ used ∷ []) again_breaches [] (shadow_uses names items)
+
+  -- all breaches of the names in SHADOW
+  unfoldable pub shadows_breaches : List MapRefusal
+  shadows_breaches = flat_map (shadow_breaches names) items ++ shadowed_twice_breaches
 
   -- the statement with the first SHADOW of an array
   unfoldable pub first_shadow : ℕ → Option ℕ

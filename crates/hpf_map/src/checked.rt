@@ -10,7 +10,7 @@ ghost use Rattle.hpf_map.specs.Refusal.{all_breaches};
 ghost use Rattle.hpf_map.specs.Shadows.{first_shadow};
 ghost use Rattle.hpf_map.specs.Subscripts.{all_subscripts};
 ghost use Rattle.hpf_map.specs.Ways.{ways_of};
-ghost use Rattle.hpf_map.specs.Widths.{all_widths};
+ghost use Rattle.hpf_map.specs.ShadowWidths.{all_shadow_widths};
 
 use crate::alignments::test_aligns;
 use crate::breaches::Breaches;
@@ -46,7 +46,7 @@ pub(crate) fn check_items(
     ensures names { IfOk result (λ c. c.statements.names ≡ names_of (map item_tree items.now)) }
     ensures said { IfOk result (λ c. c.statements.said.items ≡ all_subscripts (map item_tree items.now)) }
     ensures ways { IfOk result (λ c. c.ways ≡ ways_of (names_of (map item_tree items.now)) (map item_tree items.now)) }
-    ensures widths { IfOk result (λ c. c.statements.widths.items ≡ all_widths (map item_tree items.now)) }
+    ensures widths { IfOk result (λ c. c.statements.shadows.items ≡ all_shadow_widths (map item_tree items.now)) }
     ensures shadows { IfOk result (λ c. (n : ℕ) → get nat_cmp c.first_shadows n
         ≡ first_shadow (names_of (map item_tree items.now)) (map item_tree items.now) n) }
     ensures breaches { OnOk result (breaches.new ≡ least_with breaches.old

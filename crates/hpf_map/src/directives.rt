@@ -8,6 +8,7 @@ ghost use Rattle.hpf_map.specs.declared.name.Name.{Name};
 ghost use Rattle.hpf_map.specs.Expressions.{format_breaches, list_breaches, operation_breaches, subscript_name_breaches, align_expression_breaches, directive_breaches};
 ghost use Rattle.hpf_map.specs.Found.{least_with};
 ghost use Rattle.hpf_map.specs.Hidden.{hides};
+ghost use Rattle.hpf_map.specs.ShadowWidths.{statement_shadow};
 ghost use Rattle.hpf_map.specs.Subscripts.{is_empty, dummy_breaches, subscripts_of, statement_subscripts};
 ghost use Rattle.hpf_map.specs.Uses.{dummies};
 ghost use Rattle.hpf_map.specs.Values.{expression_breaches, maybe_expression_breaches};
@@ -17,6 +18,7 @@ use crate::dummies::dummies_of;
 use crate::dummy_places::test_dummies;
 use crate::expressions::{expression, test_subscripts};
 use crate::scope::Scope;
+use crate::shadow_widths::{ShadowWidths, read_shadow};
 use crate::subscripts::{Subscripts, said};
 use hpf_lex::Word;
 use hpf_syntax::{Expr, FormatItem, Item, List, OpItem, SourceItem, SubItem};
@@ -190,23 +192,41 @@ fn read_align(
     read_subscripts(alloc, scope, &dummies, sources, subs, breaches)
 }
 
-/// What the subscripts of a directive say, where they are free, and the breaches in the expressions of a directive or of
-/// a pipeline line, but for the widths of a SHADOW.
+/// What the expressions of a directive say, where they are free.
+#[derive(Drop)]
+pub(crate) struct Said {
+    /// The subscripts of an ALIGN.
+    pub subscripts: Option<Subscripts>,
+    /// The widths of a SHADOW.
+    pub shadow: Option<ShadowWidths>,
+}
+
+/// What the expressions of a directive say, and the breaches in those of a directive or of a pipeline line.
 #[tactic(auto, using(crate::proofs::FoundLemmas::least_with_laws), unfolding(crate::specs::Expressions::directive_breaches))]
 pub(crate) fn read_directive(
     alloc: Global,
     scope: &Scope,
     item: &Item,
     breaches: &mut Breaches,
-) -> Result<Option<Subscripts>, AllocError>
-    ensures said { IfOk result (λ s. s ≡ statement_subscripts scope.now (item_tree item.now)) }
+) -> Result<Said, AllocError>
+    ensures subscripts { IfOk result (λ s. s.subscripts ≡ statement_subscripts scope.now (item_tree item.now)) }
+    ensures shadow { IfOk result (λ s. s.shadow ≡ statement_shadow scope.now (item_tree item.now)) }
     ensures breaches { OnOk result (breaches.new ≡ least_with breaches.old
         (directive_breaches scope.now (item_tree item.now))) }
 {
     match item {
         Item::Distribute { formats, .. } => test_each(scope, formats.as_slice(), breaches),
         Item::Align { sources, subs, .. } => {
-            return read_align(alloc, scope, sources, subs, breaches);
+            return Ok(Said {
+                subscripts: read_align(alloc, scope, sources, subs, breaches)?,
+                shadow: None,
+            });
+        }
+        Item::Shadow { widths, .. } => {
+            return Ok(Said {
+                subscripts: None,
+                shadow: read_shadow(alloc, scope, widths.as_slice(), breaches)?,
+            });
         }
         Item::Input { buffers, op, .. } => {
             test_maybe(scope, buffers, breaches);
@@ -226,8 +246,10 @@ pub(crate) fn read_directive(
         | Item::Variables { .. }
         | Item::Constants { .. }
         | Item::Processors(_)
-        | Item::Template(_)
-        | Item::Shadow { .. } => {}
+        | Item::Template(_) => {}
     }
-    Ok(None)
+    Ok(Said {
+        subscripts: None,
+        shadow: None,
+    })
 }

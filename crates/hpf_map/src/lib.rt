@@ -48,6 +48,7 @@ mod program;
 mod resolution;
 mod role;
 mod scope;
+mod shadow_widths;
 mod shadows;
 mod shapes;
 mod sound;
@@ -62,7 +63,6 @@ mod values;
 mod walk;
 mod way;
 mod ways;
-mod widths;
 
 pub use constraint::Constraint;
 pub use name::{Dimensions, Meaning, Name, Shape, Space, Span, Values};

@@ -18,7 +18,7 @@ use crate::landings::{Landing, name_shape};
 use crate::name::{Shape, Span};
 use crate::names::Names;
 use crate::shapes::extent;
-use crate::widths::ShadowWidths;
+use crate::shadow_widths::ShadowWidths;
 use hpf_num::Run;
 use hpf_own::{BaseDim, BaseDims, Bounds, Cut, Image, Mapping, Sizes, Width, Widths};
 use hpf_syntax::Item;

@@ -12,7 +12,7 @@ ghost use Rattle.hpf_map.specs.Refusal.{all_breaches, Resolves};
 ghost use Rattle.hpf_map.specs.Shadows.{first_shadow};
 ghost use Rattle.hpf_map.specs.Subscripts.{all_subscripts};
 ghost use Rattle.hpf_map.specs.Ways.{ways_of};
-ghost use Rattle.hpf_map.specs.Widths.{all_widths};
+ghost use Rattle.hpf_map.specs.ShadowWidths.{all_shadow_widths};
 
 use crate::breaches::Breaches;
 use crate::built::are_built;
@@ -71,7 +71,7 @@ fn program_of(
     requires names { checked.statements.names ≡ names_of (map item_tree items.now) }
     requires said { checked.statements.said.items ≡ all_subscripts (map item_tree items.now) }
     requires ways { checked.ways ≡ ways_of (names_of (map item_tree items.now)) (map item_tree items.now) }
-    requires widths { checked.statements.widths.items ≡ all_widths (map item_tree items.now) }
+    requires widths { checked.statements.shadows.items ≡ all_shadow_widths (map item_tree items.now) }
     requires shadows { (n : ℕ) → get nat_cmp checked.first_shadows n
         ≡ first_shadow (names_of (map item_tree items.now)) (map item_tree items.now) n }
     ensures { IfOk result (λ program. IsProgram (map item_tree items.now) program) }
@@ -80,7 +80,7 @@ fn program_of(
     let statements = checked.statements;
     let names = statements.names;
     let shadows = Shadows {
-        widths: statements.widths,
+        widths: statements.shadows,
         first: checked.first_shadows,
     };
     let landings = landings.as_slice();

@@ -8,7 +8,7 @@ ghost use Rattle.hpf_syntax.specs.Plain.{width_tree, item_tree};
 ghost use Rattle.hpf_map.specs.Declarations.{threaded};
 ghost use Rattle.hpf_map.specs.Found.{least_with};
 ghost use Rattle.hpf_map.specs.Shaded.{HasFirst, given_by};
-ghost use Rattle.hpf_map.specs.Shadows.{is_template, shadowed_breaches, shadow_breaches, shadow_use, statement_shadow_uses, shadow_uses, again_breaches, shadowed_twice_breaches, first_shadow};
+ghost use Rattle.hpf_map.specs.Shadows.{is_template, shadowed_breaches, shadow_breaches, shadow_use, statement_shadow_uses, shadow_uses, again_breaches, shadows_breaches, first_shadow};
 ghost use Rattle.hpf_map.specs.declared.shadows.ShadowUse.{ShadowUse};
 
 use crate::breaches::Breaches;
@@ -19,7 +19,7 @@ use crate::names::Names;
 use crate::role::Role;
 use crate::spaces::{shape_of, test_count, used_as};
 use crate::uses_that_map::used_place;
-use crate::widths::ShadowWidths;
+use crate::shadow_widths::ShadowWidths;
 use hpf_syntax::{At, Item, Spot, WidthItem};
 use std::alloc::{AllocError, Global};
 use std::collections::BTreeMap;
@@ -205,7 +205,7 @@ fn first_statements(
 
 /// For each array with a shadow, by its place among the names, the statement with its first SHADOW. The breaches of the names in
 /// SHADOW are taken in.
-#[tactic(auto, using(crate::proofs::FoundLemmas::least_with_laws), unfolding(crate::specs::Shadows::first_shadow, crate::specs::Shadows::shadowed_twice_breaches))]
+#[tactic(auto, using(crate::proofs::FoundLemmas::least_with_laws), unfolding(crate::specs::Shadows::first_shadow, crate::specs::Shadows::shadows_breaches, crate::specs::Shadows::shadowed_twice_breaches))]
 pub(crate) fn first_shadows(
     alloc: Global,
     names: &Names,
@@ -215,8 +215,7 @@ pub(crate) fn first_shadows(
     ensures first { IfOk result (λ first. (n : ℕ)
         → get nat_cmp first n ≡ first_shadow names.now (map item_tree items.now) n) }
     ensures breaches { OnOk result (breaches.new ≡ least_with breaches.old
-        (flat_map (shadow_breaches names.now) (map item_tree items.now)
-        ++ shadowed_twice_breaches names.now (map item_tree items.now))) }
+        (shadows_breaches names.now (map item_tree items.now))) }
 {
     test_shadows(names, items, breaches);
     let uses = shadow_uses(alloc, names, items)?;

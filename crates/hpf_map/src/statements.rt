@@ -6,21 +6,21 @@ ghost use Rattle.hpf_syntax.specs.Plain.{item_tree};
 ghost use Rattle.hpf_map.specs.Declarations.{threaded, no_dimensions, names_after, declaration_breaches};
 ghost use Rattle.hpf_map.specs.Found.{least_with};
 ghost use Rattle.hpf_map.specs.Layers.{names_of, ordered_breaches, breaches_in, judged, Judges};
+ghost use Rattle.hpf_map.specs.ShadowWidths.{all_shadow_widths, statement_shadow};
 ghost use Rattle.hpf_map.specs.Subscripts.{all_subscripts, statement_subscripts};
 ghost use Rattle.hpf_map.specs.Uses.{item_use_breaches};
-ghost use Rattle.hpf_map.specs.Widths.{all_widths, statement_widths};
 
 use crate::breaches::Breaches;
 use crate::constants::declare_constants;
 use crate::declare::{common_limit, declare_all, dimensions};
-use crate::directives::read_directive;
+use crate::directives::{Said, read_directive};
 use crate::name::{Dimensions, Shape, Space};
 use crate::names::Names;
 use crate::scope::Scope;
+use crate::shadow_widths::ShadowWidths;
 use crate::shapes::MAX_EXTENT;
 use crate::subscripts::Subscripts;
 use crate::uses::test_item;
-use crate::widths::{ShadowWidths, read_widths};
 use hpf_lex::MapError;
 use hpf_syntax::{Bound, Constant, Declared, Item, Items};
 use std::alloc::{AllocError, Global};
@@ -107,16 +107,7 @@ fn declare_item(
     }
 }
 
-/// What the expressions of a statement say.
-#[derive(Drop)]
-struct Said {
-    /// The subscripts of an ALIGN.
-    subscripts: Option<Subscripts>,
-    /// The widths of a SHADOW.
-    widths: Option<ShadowWidths>,
-}
-
-/// Reads a statement behind others: its expressions, and then what it declares.
+/// Reads a statement behind others: its expressions, of which it gives what they say, and then what it declares.
 #[tactic(auto, using(crate::proofs::FoundLemmas::least_with_laws), unfolding(crate::specs::Layers::ordered_breaches))]
 fn read_item(
     alloc: Global,
@@ -126,26 +117,25 @@ fn read_item(
 ) -> Result<Said, AllocError>
     ensures names { OnOk result (names.new ≡ names_after names.old (item_tree item.now)) }
     ensures subscripts { IfOk result (λ s. s.subscripts ≡ statement_subscripts names.old (item_tree item.now)) }
-    ensures widths { IfOk result (λ s. s.widths ≡ statement_widths names.old (item_tree item.now)) }
+    ensures shadow { IfOk result (λ s. s.shadow ≡ statement_shadow names.old (item_tree item.now)) }
     ensures breaches { OnOk result (breaches.new ≡ least_with breaches.old
         (ordered_breaches names.old (item_tree item.now))) }
 {
-    let subscripts = read_directive(alloc, &Scope::behind(names), item, breaches)?;
-    let widths = read_widths(alloc, &Scope::behind(names), item, breaches)?;
+    let said = read_directive(alloc, &Scope::behind(names), item, breaches)?;
     declare_item(alloc, names, item, breaches)?;
-    Ok(Said { subscripts, widths })
+    Ok(said)
 }
 
-/// What statements declare, and what the subscripts and the widths of each say.
+/// What statements declare, and what the subscripts of each say and the widths of its shadow.
 #[derive(Drop)]
 pub(crate) struct Statements {
     pub names: Names,
     pub said: Vec<Option<Subscripts>>,
-    pub widths: Vec<Option<ShadowWidths>>,
+    pub shadows: Vec<Option<ShadowWidths>>,
 }
 
 /// Reads statements one after another.
-#[tactic(auto, using(crate::proofs::FoundLemmas::least_with_laws), unfolding(crate::specs::Subscripts::all_subscripts, crate::specs::Widths::all_widths))]
+#[tactic(auto, using(crate::proofs::FoundLemmas::least_with_laws), unfolding(crate::specs::Subscripts::all_subscripts, crate::specs::ShadowWidths::all_shadow_widths))]
 fn read_items(
     alloc: Global,
     items: &[Item],
@@ -153,22 +143,22 @@ fn read_items(
 ) -> Result<Statements, AllocError>
     ensures names { IfOk result (λ s. s.names ≡ fold names_after [] (map item_tree items.now)) }
     ensures said { IfOk result (λ s. s.said.items ≡ all_subscripts (map item_tree items.now)) }
-    ensures widths { IfOk result (λ s. s.widths.items ≡ all_widths (map item_tree items.now)) }
+    ensures shadows { IfOk result (λ s. s.shadows.items ≡ all_shadow_widths (map item_tree items.now)) }
     ensures breaches { OnOk result (breaches.new ≡ least_with breaches.old
         (threaded names_after ordered_breaches [] (map item_tree items.now))) }
 {
     let mut names = Names::new(alloc);
     let mut said = Vec::new(alloc);
-    let mut widths = Vec::new(alloc);
+    let mut shadows = Vec::new(alloc);
     for item in items {
-        let item_said = read_item(alloc, &mut names, item, breaches)?;
-        said.push(item_said.subscripts)?;
-        widths.push(item_said.widths)?;
+        let read = read_item(alloc, &mut names, item, breaches)?;
+        said.push(read.subscripts)?;
+        shadows.push(read.shadow)?;
     }
     Ok(Statements {
         names,
         said,
-        widths,
+        shadows,
     })
 }
 
@@ -183,8 +173,8 @@ fn test_items(names: &Names, items: &[Item], breaches: &mut Breaches)
     }
 }
 
-/// What statements declare and what their subscripts and widths say. The breaches in names, values, shapes, lists and widths
-/// are taken in.
+/// What statements declare, and what their subscripts say and the widths of their shadows. The breaches in names, values,
+/// shapes, lists and widths are taken in.
 #[tactic(auto, using(crate::proofs::FoundLemmas::least_with_laws), unfolding(crate::specs::Layers::names_of, crate::specs::Layers::breaches_in))]
 pub(crate) fn read_statements(
     alloc: Global,
@@ -193,7 +183,7 @@ pub(crate) fn read_statements(
 ) -> Result<Statements, AllocError>
     ensures names { IfOk result (λ s. s.names ≡ names_of (map item_tree items.now)) }
     ensures said { IfOk result (λ s. s.said.items ≡ all_subscripts (map item_tree items.now)) }
-    ensures widths { IfOk result (λ s. s.widths.items ≡ all_widths (map item_tree items.now)) }
+    ensures shadows { IfOk result (λ s. s.shadows.items ≡ all_shadow_widths (map item_tree items.now)) }
     ensures breaches { OnOk result (breaches.new ≡ least_with breaches.old
         (breaches_in (map item_tree items.now))) }
 {

@@ -7,4 +7,4 @@ loop-used-preserved c =
     let earlier = take c.loop-used.used-index c.args.uses.now in
     let found = c.loop-used.invariant in
     AreFound-more c.args.uses.now c.loop-used.used-index c.loop-used.first c.take_use.new.first c.args.breaches.now c.loop-used.breaches c.take_use.new.breaches found c.loop-used-test.true
-    (c.in_ok-take_use.ensures.first earlier found.first) (c.in_ok-take_use.ensures.breaches earlier found.first)
+    (c.in_ok-take_use.ensures.first earlier found.statements) (c.in_ok-take_use.ensures.breaches earlier found.statements)

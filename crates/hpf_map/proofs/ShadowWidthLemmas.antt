@@ -19,7 +19,7 @@ use Rattle.hpf_map.specs.Layers.{ordered_breaches, breaches_in}
 use Rattle.hpf_map.specs.Paired.{at_place}
 use Rattle.hpf_map.specs.Sound.{IsInRange}
 use Rattle.hpf_map.specs.Values.{greatest, in_range, value, place_of}
-use Rattle.hpf_map.specs.Widths.{not_negative, is_negative, both_widths, one_width, high_width, width_of, one_width_breaches, maybe_width_breaches, width_breaches, statement_widths, statement_width_breaches, all_widths}
+use Rattle.hpf_map.specs.ShadowWidths.{not_negative, is_negative, both_widths, one_width, high_width, width_of, one_width_breaches, maybe_width_breaches, width_breaches, statement_shadow, all_shadow_widths}
 use Rattle.hpf_map.proofs.EmptyLemmas.{first_empty, others_empty, breach_if_none}
 use Rattle.hpf_map.proofs.FreeLemmas.{HasValue, IsUsable, IsReady, usable_names, item_ready, expression_there}
 use Rattle.hpf_map.proofs.SoundLemmas.{first_true, second_true}
@@ -92,25 +92,23 @@ all_there before usable (w ∷ ws) none =
 -- ---- statements
 
 shadow_there : (before : List Name) → All IsUsable before → (shadowed : List Spot) (ws : List WidthTree) → ordered_breaches before (Shadow shadowed ws) ≡ []
-    → AreThere (length ws) (statement_widths before (Shadow shadowed ws))
-unfolding ordered_breaches statement_width_breaches
+    → AreThere (length ws) (statement_shadow before (Shadow shadowed ws))
+unfolding ordered_breaches directive_breaches
 shadow_there before usable shadowed ws none =
-    all_there before usable ws
-    (others_empty (directive_breaches before (Shadow shadowed ws)) (flat_map (width_breaches before) ws)
-    (first_empty (directive_breaches before (Shadow shadowed ws) ++ flat_map (width_breaches before) ws) (declaration_breaches before (Shadow shadowed ws)) none))
+    all_there before usable ws (first_empty (flat_map (width_breaches before) ws) (declaration_breaches before (Shadow shadowed ws)) none)
 
 there_at : (items : List ItemTree) (before : List Name) → All IsReady before → threaded names_after ordered_breaches before items ≡ [] → (k : ℕ) (shadowed : List Spot) (ws : List WidthTree)
-    → slice_get items k ≡ Some (Shadow shadowed ws) → AreThere (length ws) (at_place k (threaded names_after (λ names item. statement_widths names item ∷ []) before items))
+    → slice_get items k ≡ Some (Shadow shadowed ws) → AreThere (length ws) (at_place k (threaded names_after (λ names item. statement_shadow names item ∷ []) before items))
 there_at [] before h none k shadowed ws is = absurd cc
 there_at (item ∷ items) before h none zero shadowed ws is =
     let same : Shadow shadowed ws ≡ item = cc in
-    subst (λ i. AreThere (length ws) (statement_widths before i)) same
+    subst (λ i. AreThere (length ws) (statement_shadow before i)) same
     (shadow_there before (usable_names before h) shadowed ws (subst (λ i. ordered_breaches before i ≡ []) (sym same) (first_empty _ _ none)))
 there_at (item ∷ items) before h none (suc k) shadowed ws is =
     there_at items (names_after before item) (item_ready before item h (first_empty _ _ none)) (others_empty _ _ none) k shadowed ws is
 
 -- what a SHADOW gives, in a text without a breach
 pub widths_there : (items : List ItemTree) (k : ℕ) (shadowed : List Spot) (ws : List WidthTree) → breaches_in items ≡ [] → slice_get items k ≡ Some (Shadow shadowed ws)
-    → AreThere (length ws) (at_place k (all_widths items))
-unfolding breaches_in all_widths
+    → AreThere (length ws) (at_place k (all_shadow_widths items))
+unfolding breaches_in all_shadow_widths
 widths_there items k shadowed ws none is = there_at items [] (All-nil IsReady) (first_empty _ _ none) k shadowed ws is

@@ -2,10 +2,10 @@
 
 ghost use Rattle.std.specs.Prelude.{◌≡◌, List, map, option_map, option_and_then, IfOk, OnOk};
 ghost use Rattle.std.specs.List.{flat_map};
-ghost use Rattle.hpf_syntax.specs.Plain.{tree, width_tree, item_tree};
+ghost use Rattle.hpf_syntax.specs.Plain.{tree, width_tree};
 ghost use Rattle.hpf_map.specs.Found.{least_with};
 ghost use Rattle.hpf_map.specs.Gathered.{all_of};
-ghost use Rattle.hpf_map.specs.Widths.{not_negative, is_negative, both_widths, one_width, high_width, width_of, one_width_breaches, maybe_width_breaches, width_breaches, statement_widths, statement_width_breaches};
+ghost use Rattle.hpf_map.specs.ShadowWidths.{not_negative, is_negative, both_widths, one_width, high_width, width_of, one_width_breaches, maybe_width_breaches, width_breaches};
 
 use crate::breaches::Breaches;
 use crate::constraint::Constraint;
@@ -13,7 +13,7 @@ use crate::expressions::{expression, place_of};
 use crate::gathered::Gathered;
 use crate::scope::Scope;
 use hpf_own::Width;
-use hpf_syntax::{Expr, Item, WidthItem};
+use hpf_syntax::{Expr, WidthItem};
 use std::alloc::{AllocError, Global};
 use std::marker::Model;
 
@@ -62,7 +62,7 @@ fn not_negative(value: Option<i32>) -> Option<u32>
 }
 
 /// What one expression gives, where it is free, and the breaches in it.
-#[tactic(auto, using(crate::proofs::FoundLemmas::least_with_laws), unfolding(crate::specs::Widths::one_width_breaches))]
+#[tactic(auto, using(crate::proofs::FoundLemmas::least_with_laws), unfolding(crate::specs::ShadowWidths::one_width_breaches))]
 fn one_width(scope: &Scope, e: &Expr, breaches: &mut Breaches) -> Option<u32>
     ensures width { result ≡ one_width scope.now (tree e.now) }
     ensures breaches { breaches.new ≡ least_with breaches.old
@@ -102,7 +102,7 @@ fn high_width(
 }
 
 /// The widths along a dimension, where both are free, and the breaches in them.
-#[tactic(auto, using(crate::proofs::FoundLemmas::least_with_laws), unfolding(crate::specs::Widths::width_of, crate::specs::Widths::width_breaches))]
+#[tactic(auto, using(crate::proofs::FoundLemmas::least_with_laws), unfolding(crate::specs::ShadowWidths::width_of, crate::specs::ShadowWidths::width_breaches))]
 fn width(scope: &Scope, item: &WidthItem, breaches: &mut Breaches) -> Option<Width>
     ensures width { result ≡ width_of scope.now (width_tree item.now) }
     ensures breaches { breaches.new ≡ least_with breaches.old
@@ -113,9 +113,9 @@ fn width(scope: &Scope, item: &WidthItem, breaches: &mut Breaches) -> Option<Wid
     both_widths(low, high)
 }
 
-/// The widths along all dimensions, where each is free, and the breaches in them.
+/// The widths that a SHADOW gives along all dimensions, where each is free, and the breaches in them.
 #[tactic(auto, using(crate::proofs::FoundLemmas::least_with_laws))]
-fn widths(
+pub(crate) fn read_shadow(
     alloc: Global,
     scope: &Scope,
     list: &[WidthItem],
@@ -132,32 +132,5 @@ fn widths(
     match widths.finish() {
         Some(widths) => Ok(Some(ShadowWidths { widths })),
         None => Ok(None),
-    }
-}
-
-/// The widths that a statement gives, where each is free, and the breaches in them. There are none of one that isn't a
-/// SHADOW.
-#[tactic(auto, using(crate::proofs::FoundLemmas::least_with_laws), unfolding(crate::specs::Widths::statement_width_breaches))]
-pub(crate) fn read_widths(
-    alloc: Global,
-    scope: &Scope,
-    item: &Item,
-    breaches: &mut Breaches,
-) -> Result<Option<ShadowWidths>, AllocError>
-    ensures widths { IfOk result (λ ws. ws ≡ statement_widths scope.now (item_tree item.now)) }
-    ensures breaches { OnOk result (breaches.new ≡ least_with breaches.old
-        (statement_width_breaches scope.now (item_tree item.now))) }
-{
-    match item {
-        Item::Shadow { widths: list, .. } => widths(alloc, scope, list.as_slice(), breaches),
-        Item::ImplicitNone(_)
-        | Item::Variables { .. }
-        | Item::Constants { .. }
-        | Item::Processors(_)
-        | Item::Template(_)
-        | Item::Distribute { .. }
-        | Item::Align { .. }
-        | Item::Input { .. }
-        | Item::Stage { .. } => Ok(None),
     }
 }

@@ -1,7 +1,6 @@
 -- The widths that a SHADOW gives, where these names are declared before it (High Performance Fortran 2.0, Approved Extensions
 -- for Data Mapping, SHADOW: `w` stands for `w:w`).
 use Rattle.std.specs.Prelude.{ℕ, List, [], ◌∷◌, ◌++◌, map, Bool, false, Option, Some, None, option_and_then, if◌then◌else◌, ℤ, pos, int_lt, unsigned_abs}
-use Rattle.std.specs.List.{flat_map}
 use Rattle.hpf_lex.specs.declared.refusal.MapRefusal.{MapRefusal}
 use Rattle.hpf_own.specs.declared.widths.Width.{Width}
 use Rattle.hpf_syntax.specs.Plain.{Tree, WidthTree, ItemTree, Shadow}
@@ -51,14 +50,10 @@ module _ (before : List Name) where
   width_breaches w = one_width_breaches w.low ++ maybe_width_breaches w.high
 
   -- the widths that a statement gives, where each is free; none of one that isn't a SHADOW
-  abbrev pub statement_widths : ItemTree → Option (List Width)
-  statement_widths (Shadow shadowed widths) = all_of (map width_of widths)
-  statement_widths item = None
-
-  unfoldable pub statement_width_breaches : ItemTree → List MapRefusal
-  statement_width_breaches (Shadow shadowed widths) = flat_map width_breaches widths
-  statement_width_breaches item = []
+  abbrev pub statement_shadow : ItemTree → Option (List Width)
+  statement_shadow (Shadow shadowed widths) = all_of (map width_of widths)
+  statement_shadow item = None
 
 -- the widths that each statement gives, behind the names that are declared before it
-unfoldable pub all_widths : List ItemTree → List (Option (List Width))
-all_widths items = threaded names_after (λ before item. statement_widths before item ∷ []) [] items
+unfoldable pub all_shadow_widths : List ItemTree → List (Option (List Width))
+all_shadow_widths items = threaded names_after (λ before item. statement_shadow before item ∷ []) [] items

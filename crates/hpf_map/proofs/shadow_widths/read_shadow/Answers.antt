@@ -1,10 +1,10 @@
 use Rattle.std.proofs.Common.{sym, ap, ◌∙◌}
 use Rattle.hpf_syntax.specs.Plain.{width_tree}
 use Rattle.hpf_map.specs.Gathered.{with_one}
-use Rattle.hpf_map.specs.Widths.{width_of, width_breaches}
+use Rattle.hpf_map.specs.ShadowWidths.{width_of, width_breaches}
 use Rattle.hpf_map.proofs.FoundLemmas.{least_with-nil, each_seen_more}
 use Rattle.hpf_map.proofs.GatherLemmas.{all_of-nil, gather_more}
-use Rattle.hpf_map.proofs.widths.widths.Goals as goal
+use Rattle.hpf_map.proofs.shadow_widths.read_shadow.Goals as goal
 
 pub loop-item-init : goal.loop-item-init
 loop-item-init c = record { widths = c.new-widths.ensures ∙ sym all_of-nil; breaches = sym (least_with-nil c.args.breaches.now) }
