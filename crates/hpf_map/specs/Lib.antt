@@ -5,6 +5,7 @@ pub mod Index
 pub mod Hidden
 pub mod Uses
 pub mod Values
+pub mod Ranges
 pub mod Gathered
 pub mod Paired
 pub mod Shapes
@@ -17,6 +18,9 @@ pub mod Expressions
 pub mod Spaces
 pub mod Alignments
 pub mod Distributions
+pub mod Widths
+pub mod Formats
+pub mod Dealing
 pub mod Ways
 pub mod Ends
 pub mod Places

@@ -7,10 +7,12 @@ ghost use Rattle.hpf_map.specs.Layers.{names_of};
 ghost use Rattle.hpf_map.specs.Refusal.{all_breaches};
 ghost use Rattle.hpf_map.specs.Subscripts.{all_subscripts};
 ghost use Rattle.hpf_map.specs.Ways.{ways_of};
+ghost use Rattle.hpf_map.specs.Widths.{all_widths};
 
 use crate::alignments::test_aligns;
 use crate::breaches::Breaches;
 use crate::cycles::test_cycles;
+use crate::dealing::test_all_formats;
 use crate::distributions::test_distributes;
 use crate::pipeline::test_pipeline;
 use crate::program::Need;
@@ -20,7 +22,7 @@ use crate::ways::{Ways, read_ways};
 use hpf_syntax::Item;
 use std::alloc::{AllocError, Global};
 
-/// What a text declares and what its subscripts say, and how its names are mapped.
+/// What a text declares, what its subscripts and widths say, and how its names are mapped.
 #[derive(Drop)]
 pub(crate) struct Checked {
     pub statements: Statements,
@@ -37,6 +39,7 @@ pub(crate) fn check_items(
 ) -> Result<Checked, AllocError>
     ensures names { IfOk result (λ c. c.statements.names ≡ names_of (map item_tree items.now)) }
     ensures said { IfOk result (λ c. c.statements.said.items ≡ all_subscripts (map item_tree items.now)) }
+    ensures widths { IfOk result (λ c. c.statements.widths.items ≡ all_widths (map item_tree items.now)) }
     ensures ways { IfOk result (λ c. c.ways ≡ ways_of (names_of (map item_tree items.now)) (map item_tree items.now)) }
     ensures breaches { OnOk result (breaches.new ≡ least_with breaches.old
         (all_breaches need (map item_tree items.now))) }
@@ -51,6 +54,12 @@ pub(crate) fn check_items(
         breaches,
     )?;
     test_distributes(&statements.names, items, breaches);
+    test_all_formats(
+        &statements.names,
+        items,
+        statements.widths.as_slice(),
+        breaches,
+    );
     let mapped = read_ways(alloc, &statements.names, items, breaches)?;
     test_cycles(alloc, &mapped.ways, mapped.first.as_slice(), breaches)?;
     test_pipeline(

@@ -1,14 +1,15 @@
 //! What a mapping text means, or why it is refused.
 
-ghost use Rattle.std.specs.Prelude.{◌≡◌, [], map, true, IfOk};
+ghost use Rattle.std.specs.Prelude.{◌≡◌, [], map, IfOk};
 ghost use Rattle.hpf_syntax.specs.Plain.{item_tree};
-ghost use Rattle.hpf_map.specs.Built.{are_built, not_built};
+ghost use Rattle.hpf_map.specs.Built.{not_built};
 ghost use Rattle.hpf_map.specs.Layers.{names_of};
 ghost use Rattle.hpf_map.specs.Mappings.{CanMapAll};
 ghost use Rattle.hpf_map.specs.Program.{IsProgram};
 ghost use Rattle.hpf_map.specs.Refusal.{all_breaches, Resolves};
 ghost use Rattle.hpf_map.specs.Subscripts.{all_subscripts};
 ghost use Rattle.hpf_map.specs.Ways.{ways_of};
+ghost use Rattle.hpf_map.specs.Widths.{all_widths};
 
 use crate::breaches::Breaches;
 use crate::built::are_built;
@@ -41,7 +42,6 @@ fn landings_of(
     need: Need,
     checked: &Checked,
 ) -> Result<Vec<Option<Landing>>, AllocError>
-    requires built { are_built (map item_tree items.now) ≡ true }
     requires none { all_breaches need (map item_tree items.now) ≡ [] }
     requires names { checked.now.statements.names ≡ names_of (map item_tree items.now) }
     requires said { checked.now.statements.said.items ≡ all_subscripts (map item_tree items.now) }
@@ -61,20 +61,21 @@ fn program_of(
     need: Need,
     checked: Checked,
 ) -> Result<Program, AllocError>
-    requires built { are_built (map item_tree items.now) ≡ true }
     requires none { all_breaches need (map item_tree items.now) ≡ [] }
     requires names { checked.statements.names ≡ names_of (map item_tree items.now) }
     requires said { checked.statements.said.items ≡ all_subscripts (map item_tree items.now) }
+    requires widths { checked.statements.widths.items ≡ all_widths (map item_tree items.now) }
     requires ways { checked.ways ≡ ways_of (names_of (map item_tree items.now)) (map item_tree items.now) }
     ensures { IfOk result (λ program. IsProgram (map item_tree items.now) program) }
 {
     let landings = landings_of(alloc, items, need, &checked)?;
     let statements = checked.statements;
     let names = statements.names;
+    let widths = statements.widths.as_slice();
     let landings = landings.as_slice();
-    let mappings = all_mappings(alloc, &names, items, landings)?;
+    let mappings = all_mappings(alloc, &names, items, widths, landings)?;
     let lines = lines(alloc, items)?;
-    let stages = all_stages(alloc, &names, items, landings, lines.as_slice())?;
+    let stages = all_stages(alloc, &names, items, widths, landings, lines.as_slice())?;
     let counts = counts(alloc, &names, items)?;
     Ok(Program::new(names, mappings, stages, counts))
 }

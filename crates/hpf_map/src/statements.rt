@@ -8,11 +8,13 @@ ghost use Rattle.hpf_map.specs.Found.{least_with};
 ghost use Rattle.hpf_map.specs.Layers.{names_of, ordered_breaches, breaches_in, judged, Judges};
 ghost use Rattle.hpf_map.specs.Subscripts.{all_subscripts, statement_subscripts};
 ghost use Rattle.hpf_map.specs.Uses.{item_use_breaches};
+ghost use Rattle.hpf_map.specs.Widths.{all_widths, statement_widths};
 
 use crate::breaches::Breaches;
 use crate::constants::declare_constants;
 use crate::declare::{common_limit, declare_all, dimensions};
-use crate::directives::read_directive;
+use crate::directives::{Said, read_directive};
+use crate::format_widths::FormatWidths;
 use crate::name::{Dimensions, Shape, Space};
 use crate::names::Names;
 use crate::scope::Scope;
@@ -105,17 +107,17 @@ fn declare_item(
     }
 }
 
-/// Reads a statement behind others: its expressions, and then what it declares. Of an ALIGN it gives what the subscripts
-/// say.
+/// Reads a statement behind others: its expressions, of which it gives what they say, and then what it declares.
 #[tactic(auto, using(crate::proofs::FoundLemmas::least_with_laws), unfolding(crate::specs::Layers::ordered_breaches))]
 fn read_item(
     alloc: Global,
     names: &mut Names,
     item: &Item,
     breaches: &mut Breaches,
-) -> Result<Option<Subscripts>, AllocError>
+) -> Result<Said, AllocError>
     ensures names { OnOk result (names.new ≡ names_after names.old (item_tree item.now)) }
-    ensures said { IfOk result (λ s. s ≡ statement_subscripts names.old (item_tree item.now)) }
+    ensures subscripts { IfOk result (λ s. s.subscripts ≡ statement_subscripts names.old (item_tree item.now)) }
+    ensures widths { IfOk result (λ s. s.widths ≡ statement_widths names.old (item_tree item.now)) }
     ensures breaches { OnOk result (breaches.new ≡ least_with breaches.old
         (ordered_breaches names.old (item_tree item.now))) }
 {
@@ -124,15 +126,16 @@ fn read_item(
     Ok(said)
 }
 
-/// What statements declare, and what the subscripts of each say.
+/// What statements declare, what the subscripts of each say, and the values of the widths in its formats.
 #[derive(Drop)]
 pub(crate) struct Statements {
     pub names: Names,
     pub said: Vec<Option<Subscripts>>,
+    pub widths: Vec<Option<FormatWidths>>,
 }
 
 /// Reads statements one after another.
-#[tactic(auto, using(crate::proofs::FoundLemmas::least_with_laws), unfolding(crate::specs::Subscripts::all_subscripts))]
+#[tactic(auto, using(crate::proofs::FoundLemmas::least_with_laws), unfolding(crate::specs::Subscripts::all_subscripts, crate::specs::Widths::all_widths))]
 fn read_items(
     alloc: Global,
     items: &[Item],
@@ -140,15 +143,23 @@ fn read_items(
 ) -> Result<Statements, AllocError>
     ensures names { IfOk result (λ s. s.names ≡ fold names_after [] (map item_tree items.now)) }
     ensures said { IfOk result (λ s. s.said.items ≡ all_subscripts (map item_tree items.now)) }
+    ensures widths { IfOk result (λ s. s.widths.items ≡ all_widths (map item_tree items.now)) }
     ensures breaches { OnOk result (breaches.new ≡ least_with breaches.old
         (threaded names_after ordered_breaches [] (map item_tree items.now))) }
 {
     let mut names = Names::new(alloc);
     let mut said = Vec::new(alloc);
+    let mut widths = Vec::new(alloc);
     for item in items {
-        said.push(read_item(alloc, &mut names, item, breaches)?)?;
+        let read = read_item(alloc, &mut names, item, breaches)?;
+        said.push(read.subscripts)?;
+        widths.push(read.widths)?;
     }
-    Ok(Statements { names, said })
+    Ok(Statements {
+        names,
+        said,
+        widths,
+    })
 }
 
 /// The names that directives and pipeline lines use.
@@ -162,7 +173,7 @@ fn test_items(names: &Names, items: &[Item], breaches: &mut Breaches)
     }
 }
 
-/// What statements declare and what their subscripts say. The breaches in names, values, shapes and lists are taken in.
+/// What statements declare, and what their subscripts and widths say. The breaches in names, values, shapes and lists are taken in.
 #[tactic(auto, using(crate::proofs::FoundLemmas::least_with_laws), unfolding(crate::specs::Layers::names_of, crate::specs::Layers::breaches_in))]
 pub(crate) fn read_statements(
     alloc: Global,
@@ -171,6 +182,7 @@ pub(crate) fn read_statements(
 ) -> Result<Statements, AllocError>
     ensures names { IfOk result (λ s. s.names ≡ names_of (map item_tree items.now)) }
     ensures said { IfOk result (λ s. s.said.items ≡ all_subscripts (map item_tree items.now)) }
+    ensures widths { IfOk result (λ s. s.widths.items ≡ all_widths (map item_tree items.now)) }
     ensures breaches { OnOk result (breaches.new ≡ least_with breaches.old
         (breaches_in (map item_tree items.now))) }
 {
