@@ -21,6 +21,7 @@ pub mod Distributions
 pub mod Widths
 pub mod Formats
 pub mod Dealing
+pub mod Seen
 pub mod Ways
 pub mod Ends
 pub mod Places

@@ -10,12 +10,13 @@ ghost use Rattle.hpf_map.specs.Cuts.{axis_of, IsMet, MeetsAll, cut_at};
 ghost use Rattle.hpf_map.specs.Dealing.{over};
 ghost use Rattle.hpf_map.specs.Formats.{format_of};
 ghost use Rattle.hpf_map.specs.Mapped.{CanBeCut};
+ghost use Rattle.hpf_map.specs.Seen.{seen};
 ghost use Rattle.hpf_map.specs.Shapes.{extent, max_extent};
 ghost use Rattle.hpf_map.specs.Sound.{IsSoundSpan};
 
 use crate::dealing::Dealing;
 use crate::distributions::{divided, divides};
-use crate::formats::list_of;
+use crate::formats::{list_of, or_zero};
 use crate::name::{Span, Values};
 use crate::names::Names;
 use crate::paired::at_place;
@@ -31,7 +32,7 @@ fn lengths(alloc: Global, values: &[i32]) -> Result<Lengths, AllocError>
 {
     let mut lengths = Vec::with_capacity(alloc, values.len())?;
     for value in values {
-        lengths.push((*value).max(0).unsigned_abs())?;
+        lengths.push(or_zero(*value))?;
     }
     Lengths::from_slice(alloc, lengths.as_slice())
 }
@@ -59,7 +60,7 @@ fn block_width(width: Option<i32>) -> Option<u64>
     ensures { result ≡ option_map or_zero width }
 {
     match width {
-        Some(width) => Some(u64::from(width.max(0).unsigned_abs())),
+        Some(width) => Some(u64::from(or_zero(width))),
         None => None,
     }
 }
@@ -165,27 +166,27 @@ fn axis_of(alloc: Global, span: &Span, procs: &Span, format: Format) -> Result<A
     }
 }
 
-/// How a dimension is cut whose format divides it over the dimension of the arrangement with the number `over`.
+/// How a dimension is cut whose format divides it over the dimension of the arrangement with the number `dim`.
 fn divided_cut(
     alloc: Global,
     dealing: &Dealing,
     root: &[Span],
     k: usize,
-    over: usize,
+    dim: usize,
 ) -> Result<Cut, AllocError>
-    requires cut { CanBeCut dealing.now root.now }
+    requires cut { CanBeCut (seen dealing.now) root.now }
     requires below { k < length root.now }
-    requires over { over ≡ over dealing.now.formats k }
-    requires within { over < length dealing.now.target }
-    ensures { IfOk result (λ cut. cut ≡ cut_at dealing.now root.now k) }
+    requires over { dim ≡ over (seen dealing.now).formats k }
+    requires within { dim < length (seen dealing.now).target }
+    ensures { IfOk result (λ cut. cut ≡ cut_at (seen dealing.now) root.now k) }
 {
     let span = &root[k];
-    let procs = &dealing.target[over];
+    let procs = &dealing.target[dim];
     let width = at_place(dealing.widths, k).copied();
     let format = &dealing.formats[k];
     match format_of(alloc, dealing.names, format, width, span, procs)? {
         Some(format) => Ok(Cut::Over {
-            dim: over as u32,
+            dim: dim as u32,
             axis: axis_of(alloc, span, procs, format)?,
         }),
         None => Ok(Cut::Whole),
@@ -199,13 +200,13 @@ pub(crate) fn cut_at(
     root: &[Span],
     k: usize,
 ) -> Result<Cut, AllocError>
-    requires cut { CanBeCut dealing.now root.now }
+    requires cut { CanBeCut (seen dealing.now) root.now }
     requires below { k < length root.now }
-    ensures { IfOk result (λ cut. cut ≡ cut_at dealing.now root.now k) }
+    ensures { IfOk result (λ cut. cut ≡ cut_at (seen dealing.now) root.now k) }
 {
     if !divides(&dealing.formats[k]) {
         return Ok(Cut::Whole);
     }
-    let over = divided(&dealing.formats[..k]);
-    divided_cut(alloc, dealing, root, k, over)
+    let dim = divided(&dealing.formats[..k]);
+    divided_cut(alloc, dealing, root, k, dim)
 }

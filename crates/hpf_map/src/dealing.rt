@@ -1,12 +1,13 @@
 //! How a DISTRIBUTE deals the positions of its distributees, dimension by dimension.
 
-ghost use Rattle.std.specs.Prelude.{◌≡◌, [], map, Some, unwrap_or, option_copied};
+ghost use Rattle.std.specs.Prelude.{◌≡◌, [], map, Some, unwrap_or, option_map, option_copied};
 ghost use Rattle.std.specs.List.{flat_map};
 ghost use Rattle.hpf_syntax.specs.Plain.{format_tree, item_tree};
 ghost use Rattle.hpf_map.specs.Dealing.{matching, dealing, over, breaches_at, dealing_breaches, sized_breaches, formats_breaches};
 ghost use Rattle.hpf_map.specs.Found.{least_with};
 ghost use Rattle.hpf_map.specs.Ownership.{dealing_of, dealing_by};
 ghost use Rattle.hpf_map.specs.Paired.{each_with};
+ghost use Rattle.hpf_map.specs.Seen.{seen};
 ghost use Rattle.hpf_map.specs.Spaces.{shape_of};
 ghost use Rattle.hpf_map.specs.Widths.{all_widths};
 ghost use Rattle.hpf_map.specs.declared.role.Role.TheVariants as role;
@@ -22,7 +23,6 @@ use crate::role::Role;
 use crate::shapes::extent;
 use crate::spaces::shape_of;
 use hpf_syntax::{FormatItem, Item, Spot};
-use std::marker::Model;
 
 /// The formats of a DISTRIBUTE, with what they stand on.
 #[derive(Drop)]
@@ -33,21 +33,6 @@ pub(crate) struct Dealing<'a> {
     pub widths: &'a [Option<i32>],
     /// The dimensions of the arrangement: none where they aren't free, or are another number than the formats divide.
     pub target: &'a [Span],
-}
-
-impl<'a> Model for Dealing<'a> {
-    ghost use Rattle.std.specs.Prelude.{map};
-    ghost use Rattle.hpf_syntax.specs.Plain.{format_tree};
-    ghost use Rattle.hpf_map.specs.Dealing.{Dealt};
-
-    ghost Value = { Dealt };
-
-    ghost view = { λ d. record {
-      names = d.names.now;
-      formats = map format_tree d.formats.now;
-      widths = d.widths.now;
-      target = d.target.now;
-    } };
 }
 
 /// The dimensions of a shape that is free and has so many.
@@ -71,13 +56,13 @@ fn values_of<'a>(widths: Option<&'a FormatWidths>) -> &'a [Option<i32>]
 }
 
 /// The formats of a statement, where the values of its widths are these.
-pub(crate) fn dealing<'a>(
+pub(crate) fn dealing_with<'a>(
     names: &'a Names,
     formats: &'a [FormatItem],
     onto: &Option<Spot>,
     widths: Option<&'a FormatWidths>,
 ) -> Dealing<'a>
-    ensures { result ≡ dealing names.now (map format_tree formats.now) onto.now (option_copied widths.entry) }
+    ensures { seen result ≡ dealing names.now (map format_tree formats.now) onto.now (option_copied widths.entry) }
 {
     Dealing {
         names,
@@ -93,11 +78,11 @@ fn item_dealing<'a>(
     item: &'a Item,
     widths: Option<&'a FormatWidths>,
 ) -> Option<Dealing<'a>>
-    ensures { result ≡ dealing_of names.now (Some (item_tree item.now)) (option_copied widths.entry) }
+    ensures { option_map seen result ≡ dealing_of names.now (Some (item_tree item.now)) (option_copied widths.entry) }
 {
     match item {
         Item::Distribute { formats, onto, .. } => {
-            Some(dealing(names, formats.as_slice(), onto, widths))
+            Some(dealing_with(names, formats.as_slice(), onto, widths))
         }
         _ => None,
     }
@@ -112,41 +97,44 @@ pub(crate) fn dealing_by<'a>(
     statement: usize,
 ) -> Option<Dealing<'a>>
     requires { widths.now ≡ all_widths (map item_tree items.now) }
-    ensures { result ≡ dealing_by names.now (map item_tree items.now) statement }
+    ensures { option_map seen result ≡ dealing_by names.now (map item_tree items.now) statement }
 {
     item_dealing(names, items.get(statement)?, at_place(widths, statement))
 }
 
 /// The breaches of the format with this number, over a distributee with these bounds, by the dimension of the arrangement
-/// with the number `over`.
+/// with the number `dim`.
 fn test_format_at(
     dealing: &Dealing,
     spans: &[Span],
     k: usize,
-    over: usize,
+    dim: usize,
     breaches: &mut Breaches,
 )
-    requires { over ≡ over dealing.now.formats k }
-    ensures { breaches.new ≡ least_with breaches.old (breaches_at dealing.now spans.now k) }
+    requires { dim ≡ over (seen dealing.now).formats k }
+    ensures { breaches.new ≡ least_with breaches.old (breaches_at (seen dealing.now) spans.now k) }
 {
-    if let Some(format) = dealing.formats.get(k) {
-        let width = at_place(dealing.widths, k).copied();
-        let positions = spans.get(k).map(extent);
-        let procs = dealing.target.get(over);
-        test_format(dealing.names, format, width, positions, procs, breaches);
+    match dealing.formats.get(k) {
+        Some(format) => {
+            let width = at_place(dealing.widths, k).copied();
+            let positions = spans.get(k).map(extent);
+            let procs = dealing.target.get(dim);
+            test_format(dealing.names, format, width, positions, procs, breaches);
+        }
+        None => {}
     }
 }
 
 /// The breaches of formats, over a distributee with these bounds.
 #[tactic(auto, using(crate::proofs::FoundLemmas::least_with_laws), unfolding(crate::specs::Dealing::dealing_breaches))]
 fn test_dealing(dealing: &Dealing, spans: &[Span], breaches: &mut Breaches)
-    ensures { breaches.new ≡ least_with breaches.old (dealing_breaches dealing.now spans.now) }
+    ensures { breaches.new ≡ least_with breaches.old (dealing_breaches (seen dealing.now) spans.now) }
 {
-    let mut over = 0;
+    let mut dim = 0;
     for (k, format) in dealing.formats.iter().enumerate() {
-        test_format_at(dealing, spans, k, over, breaches);
+        test_format_at(dealing, spans, k, dim, breaches);
         if divides(format) {
-            over += 1;
+            dim += 1;
         }
     }
 }
@@ -154,12 +142,15 @@ fn test_dealing(dealing: &Dealing, spans: &[Span], breaches: &mut Breaches)
 /// The same over a distributee with as many dimensions as there are formats, where its shape is free.
 #[tactic(auto, using(crate::proofs::FoundLemmas::least_with_laws))]
 fn test_sized(dealing: &Dealing, shape: Option<&Shape>, breaches: &mut Breaches)
-    ensures { breaches.new ≡ least_with breaches.old (sized_breaches dealing.now (option_copied shape.entry)) }
+    ensures { breaches.new ≡ least_with breaches.old (sized_breaches (seen dealing.now) (option_copied shape.entry)) }
 {
-    if let Some(shape) = shape
-        && shape.as_slice().len() == dealing.formats.len()
-    {
-        test_dealing(dealing, shape.as_slice(), breaches);
+    match shape {
+        Some(shape) => {
+            if shape.as_slice().len() == dealing.formats.len() {
+                test_dealing(dealing, shape.as_slice(), breaches);
+            }
+        }
+        None => {}
     }
 }
 
@@ -167,7 +158,7 @@ fn test_sized(dealing: &Dealing, shape: Option<&Shape>, breaches: &mut Breaches)
 #[tactic(auto, using(crate::proofs::FoundLemmas::least_with_laws))]
 fn test_each_sized(dealing: &Dealing, distributees: &[Spot], breaches: &mut Breaches)
     ensures { breaches.new ≡ least_with breaches.old
-        (flat_map (λ distributee. sized_breaches dealing.now (shape_of dealing.now.names role.Mapped distributee.word)) distributees.now) }
+        (flat_map (λ distributee. sized_breaches (seen dealing.now) (shape_of (seen dealing.now).names role.Mapped distributee.word)) distributees.now) }
 {
     for distributee in distributees {
         let shape = shape_of(dealing.names, Role::Mapped, &distributee.word);
@@ -192,7 +183,7 @@ fn test_formats(
         onto,
     } = item
     {
-        let dealing = dealing(names, formats.as_slice(), onto, widths);
+        let dealing = dealing_with(names, formats.as_slice(), onto, widths);
         test_dealing(&dealing, &[], breaches);
         test_each_sized(&dealing, distributees.as_slice(), breaches);
     }

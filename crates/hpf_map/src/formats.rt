@@ -1,9 +1,10 @@
 //! What is asked of the format of one dimension.
 
-ghost use Rattle.std.specs.Prelude.{◌≡◌, ◌++◌, map, option_map, option_copied};
-ghost use Rattle.std.specs.List.{sum};
+ghost use Rattle.std.specs.Prelude.{◌≡◌, ◌++◌, int_lt, map, option_map, option_copied};
+ghost use Rattle.std.specs.List.{list_any, sum};
 ghost use Rattle.hpf_num.specs.Run.{or_zero};
 ghost use Rattle.hpf_syntax.specs.Plain.{format_tree};
+ghost use Rattle.hpf_map.specs.Alignments.{is_beyond};
 ghost use Rattle.hpf_map.specs.Constraint.{breach_if};
 ghost use Rattle.hpf_map.specs.Formats.{meaning_list, list_of, has_no_position, falls_short, differs, has_negative, lengths_fall_short, has_stray, condition_breaches};
 ghost use Rattle.hpf_map.specs.Found.{least_with};
@@ -88,9 +89,16 @@ fn sum(values: &[i32]) -> u128
 {
     let mut sum = 0u128;
     for value in values {
-        sum += u128::from((*value).max(0).unsigned_abs());
+        sum += u128::from(or_zero(*value));
     }
     sum
+}
+
+/// A value, or 0 where it is negative.
+pub(crate) fn or_zero(value: i32) -> u32
+    ensures { result ≡ or_zero value }
+{
+    value.max(0).unsigned_abs()
 }
 
 /// Whether there is a length for each processor and none is negative, but together they are shorter than the dimension.
@@ -111,14 +119,33 @@ fn lengths_fall_short(
     }
 }
 
+/// Whether some value lies below these bounds.
+fn has_below(values: &Values, bounds: &Span) -> bool
+    ensures { result ≡ list_any (λ v. int_lt v bounds.now.low) values.now }
+{
+    values.begins_below(bounds.low)
+}
+
+/// Whether some value lies above these bounds.
+fn has_above(values: &Values, bounds: &Span) -> bool
+    ensures { result ≡ list_any (λ v. int_lt bounds.now.high v) values.now }
+{
+    values.ends_above(bounds.high)
+}
+
+/// Whether some value lies outside these bounds.
+fn has_beyond(values: &Values, bounds: &Span) -> bool
+    ensures { result ≡ list_any (is_beyond bounds.now) values.now }
+{
+    has_below(values, bounds) || has_above(values, bounds)
+}
+
 /// Whether a value lies outside the bounds of the dimension of the arrangement.
 fn has_stray(values: Option<&Values>, procs: Option<&Span>) -> bool
     ensures { result ≡ has_stray (option_copied values.entry) (option_copied procs.entry) }
 {
     match (values, procs) {
-        (Some(values), Some(procs)) => {
-            values.begins_below(procs.low) || values.ends_above(procs.high)
-        }
+        (Some(values), Some(procs)) => has_beyond(values, procs),
         _ => false,
     }
 }

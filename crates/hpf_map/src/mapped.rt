@@ -6,6 +6,7 @@ ghost use Rattle.hpf_own.specs.Lists.{IsBounds, IsSizes};
 ghost use Rattle.hpf_syntax.specs.Plain.{item_tree};
 ghost use Rattle.hpf_map.specs.Mapped.{cut_dim, AreCut, CanBeCut, CanBeMapped, IsMapped, CanMap};
 ghost use Rattle.hpf_map.specs.Ownership.{IsMappingOf};
+ghost use Rattle.hpf_map.specs.Seen.{seen};
 ghost use Rattle.hpf_map.specs.Shapes.{extent};
 ghost use Rattle.hpf_map.specs.Spaces.{run_of};
 ghost use Rattle.hpf_map.specs.Widths.{all_widths};
@@ -113,10 +114,10 @@ fn cut_dim(
     images: &[Image],
     e: usize,
 ) -> Result<BaseDim, AllocError>
-    requires cut { CanBeCut dealing.now root.now }
+    requires cut { CanBeCut (seen dealing.now) root.now }
     requires size { length images.now ≡ length root.now }
     requires dimension { e < length root.now }
-    ensures { IfOk result (λ dim. dim ≡ cut_dim dealing.now root.now images.now e) }
+    ensures { IfOk result (λ dim. dim ≡ cut_dim (seen dealing.now) root.now images.now e) }
 {
     Ok(BaseDim {
         image: images[e],
@@ -131,9 +132,9 @@ fn cut_dims(
     root: &[Span],
     images: &[Image],
 ) -> Result<BaseDims, AllocError>
-    requires cut { CanBeCut dealing.now root.now }
+    requires cut { CanBeCut (seen dealing.now) root.now }
     requires size { length images.now ≡ length root.now }
-    ensures { IfOk result (λ dims. AreCut dealing.now root.now images.now dims) }
+    ensures { IfOk result (λ dims. AreCut (seen dealing.now) root.now images.now dims) }
 {
     let mut dims = BaseDims::new(alloc);
     for e in 0..root.len() {
@@ -150,8 +151,8 @@ fn mapped(
     dealing: &Dealing,
     images: &[Image],
 ) -> Result<Mapping, AllocError>
-    requires { CanBeMapped array.now root.now dealing.now images.now }
-    ensures { IfOk result (λ m. IsMapped array.now root.now dealing.now images.now m) }
+    requires { CanBeMapped array.now root.now (seen dealing.now) images.now }
+    ensures { IfOk result (λ m. IsMapped array.now root.now (seen dealing.now) images.now m) }
 {
     let bounds = bounds(alloc, array)?;
     let sizes = sizes(alloc, dealing.target)?;

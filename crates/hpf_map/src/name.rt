@@ -97,7 +97,7 @@ impl Values {
         ensures { result ≡ list_any (λ v. int_lt v bound) self.now }
     {
         match &self.range {
-            Some(range) => range.low < bound,
+            Some(range) => is_low_below(range, bound),
             None => false,
         }
     }
@@ -107,14 +107,28 @@ impl Values {
         ensures { result ≡ list_any (λ v. int_lt bound v) self.now }
     {
         match &self.range {
-            Some(range) => bound < range.high,
+            Some(range) => is_high_above(range, bound),
             None => false,
         }
     }
 }
 
-ghost use Rattle.std.specs.Prelude.{List, [], ◌∷◌, ◌++◌, Some, ℤ};
+ghost use Rattle.std.specs.Prelude.{List, [], ◌∷◌, ◌++◌, Some, ℤ, int_lt};
 ghost use Rattle.hpf_map.specs.Ranges.{HasRange};
+
+/// Whether a range begins below this.
+fn is_low_below(range: &Span, bound: i32) -> bool
+    ensures { result ≡ int_lt range.now.low bound }
+{
+    range.low < bound
+}
+
+/// Whether a range ends above this.
+fn is_high_above(range: &Span, bound: i32) -> bool
+    ensures { result ≡ int_lt bound range.now.high }
+{
+    bound < range.high
+}
 
 /// The least and the greatest value, if there are any.
 fn range_of(values: &[i32]) -> Option<Span>
