@@ -2,12 +2,12 @@
 use Rattle.std.proofs.Common.{◌≡◌, ◌==◌, ℕ, zero, suc, ◌+◌, ◌-◌, ◌*◌, ◌^◌, ◌<◌, ◌≤◌, Bool, true, false, List, [], ◌∷◌, length, map, get_or, All, Option, Some, None, inl, inr, ℤ, pos, ◌+ℤ◌, ◌*ℤ◌, ◌-ℤ◌, ◌≤ℤ◌, ◌<ℤ◌, unsigned_abs, arith, sym, ap, ◌∙◌, subst, refl, eq-eqb}
 use Rattle.std.specs.Prelude.{slice_get}
 use Rattle.std.specs.List.{filter}
-use Rattle.std.proofs.lemmas.Bool.{cases_Bool, cond-true, cond-false, eqb-true, false≢true}
+use Rattle.std.proofs.lemmas.Bool.{cases_Bool, cases_lt, cond-true, cond-false, eqb-true, false≢true}
 use Rattle.std.proofs.lemmas.Int.{ints, unsigned_abs-mul}
-use Rattle.std.proofs.lemmas.Nat.{mul-le, cases_lt}
+use Rattle.std.proofs.lemmas.Nat.{mul-le}
 use Rattle.std.proofs.lemmas.List.{get_or_default, get_or-map, ext_get_or, length-map}
 use Rattle.std.proofs.lemmas.List.Elements.{Contains-get_or}
-use Rattle.hpf_dist.specs.Axis.{AreProcs}
+use Rattle.hpf_dist.specs.Axis.{Divided, AreProcs}
 use Rattle.hpf_dist.specs.declared.format.Format.{Format}
 use Rattle.hpf_dist.specs.Spread.{IsPosition, spread}
 use Rattle.hpf_num.specs.declared.run.Run.{Run}
@@ -19,7 +19,8 @@ use Rattle.hpf_own.specs.declared.image.Cut.{Cut}
 use Rattle.hpf_own.specs.declared.image.Cut.TheVariants.{Whole, Over}
 use Rattle.hpf_own.specs.declared.image.Image.{Image}
 use Rattle.hpf_own.specs.declared.image.Image.TheVariants.{Along, Fixed, Spread}
-use Rattle.hpf_syntax.specs.Plain.{FormatTree, Star, Block, Cyclic, GenBlock, Indirect}
+use Rattle.hpf_syntax.specs.declared.tree.FormatItem.{FormatItem}
+use Rattle.hpf_syntax.specs.Plain.{FormatTree, format_tree, Star, Block, Cyclic, GenBlock, Indirect}
 use Rattle.hpf_map.specs.declared.name.Name.{Name}
 use Rattle.hpf_map.specs.declared.name.Space.TheVariants.{Arrangement}
 use Rattle.hpf_map.specs.declared.name.Span.{Span}
@@ -172,7 +173,7 @@ some_divides names (Indirect at places) w d p f is = refl
 
 -- ---- all dimensions
 
-no_format : FormatTree
+pub no_format : FormatTree
 no_format = Star (record { line = 0; column = 0 })
 
 stands : {A : Type 0} (xs : List A) (n : ℕ) (d : A) → n < length xs → slice_get xs n ≡ Some (get_or xs n d)
@@ -252,6 +253,47 @@ module _ (dealt : Dealt) (root : List Span) (can : CanBeCut dealt root) where
           | inr not_behind ↦ omega (arith, not_before, not_behind)
         ]
       ]
+
+-- ---- what the code computes of a dimension
+
+-- the format of a dimension as the code finds it
+pub record IsFound (dealt : Dealt) (root : List Span) (k dim : ℕ) (tree : FormatTree) (w : Option ℤ) : Type 0 where
+  pub format : format_at dealt root k ≡ format_of dealt.names tree w (extent (get_or root k no_span)) (get_or dealt.target dim no_span)
+  pub met : MeetsAll tree (extent (get_or root k no_span)) (extent (get_or dealt.target dim no_span)) (format_of dealt.names tree w (extent (get_or root k no_span)) (get_or dealt.target dim no_span))
+
+pub dim_found : (dealt : Dealt) (root : List Span) (k dim : ℕ) (tree : FormatTree) (w : Option ℤ) → CanBeCut dealt root → k < length root → dim ≡ over dealt.formats k
+    → tree ≡ get_or dealt.formats k no_format → w ≡ at_place k dealt.widths → IsFound dealt root k dim tree w
+dim_found dealt root k dim tree w can below is_dim is_tree is_w =
+    let d = dim_at dealt root can k below in
+    let base : IsFound dealt root k (over dealt.formats k) d.tree (at_place k dealt.widths) = record { format = d.format; met = d.met } in
+    subst (λ t. IsFound dealt root k dim t w) (d.is_tree ∙ sym is_tree)
+    (subst (λ v. IsFound dealt root k dim d.tree v) (sym is_w) (subst (λ e. IsFound dealt root k e d.tree (at_place k dealt.widths)) (sym is_dim) base))
+
+-- a format of the code, as a tree
+pub seen_tree : (formats : List FormatItem) (root : List Span) (k : ℕ) (x : FormatItem) → length (map format_tree formats) ≡ length root → k < length root
+    → format_tree (get_or formats k x) ≡ get_or (map format_tree formats) k no_format
+seen_tree formats root k x rank below = sym (get_or-map format_tree formats k x no_format (let inside : k < length formats = omega (arith, rank, below, length-map formats format_tree) in inside))
+
+pub cut_found : (dealt : Dealt) (root : List Span) (k dim : ℕ) (f : Format) (axis : Divided) → format_at dealt root k ≡ Some f → dim ≡ over dealt.formats k
+    → axis ≡ axis_of (get_or root k no_span) (get_or dealt.target dim no_span) f → Over dim axis ≡ cut_at dealt root k
+cut_found dealt root k dim f axis is is_dim is_axis =
+    ap (Over dim) is_axis ∙ ap (λ e. Over e (axis_of (get_or root k no_span) (get_or dealt.target e no_span) f)) is_dim
+    ∙ sym (ap (λ o. cut_with dealt root o k) is)
+
+pub whole_found : (dealt : Dealt) (root : List Span) (k : ℕ) → format_at dealt root k ≡ None → Whole ≡ cut_at dealt root k
+whole_found dealt root k is = sym (ap (λ o. cut_with dealt root o k) is)
+
+-- a dimension whose format divides nothing is whole
+pub undivided : (dealt : Dealt) (root : List Span) (k : ℕ) → CanBeCut dealt root → k < length root → divides (get_or dealt.formats k no_format) ≡ false → Whole ≡ cut_at dealt root k
+undivided dealt root k can below h =
+    by_format dealt root can (λ cut. Whole ≡ cut) k refl (λ f is. absurd (false≢true (sym h ∙ divided_at dealt root can k f below is)))
+
+pub dim_inside : (dealt : Dealt) (root : List Span) (k : ℕ) → CanBeCut dealt root → k < length root → divides (get_or dealt.formats k no_format) ≡ true → over dealt.formats k < length dealt.target
+dim_inside dealt root k can below h =
+    let r = format_there dealt root can k below h in
+    over_inside dealt root can k r.0 below r.1
+
+-- ---- all dimensions of a base
 
 module _ (dealt : Dealt) (root : List Span) (images : List Image) (dims : List BaseDim) (can : CanBeCut dealt root) (cut : AreCut dealt root images dims) where
   -- what each dimension has, all have

@@ -114,6 +114,7 @@ impl Values {
 }
 
 ghost use Rattle.std.specs.Prelude.{List, [], ◌∷◌, ◌++◌, Some, ℤ, int_lt};
+ghost use Rattle.std.specs.Int.{int_min, int_max};
 ghost use Rattle.hpf_map.specs.Ranges.{HasRange};
 
 /// Whether a range begins below this.
@@ -146,14 +147,22 @@ fn with_value(range: Option<Span>, value: i32) -> Span
     ensures { (values : List ℤ) → HasRange values range → HasRange (values ++ value ∷ []) (Some result) }
 {
     match range {
-        Some(Span { low, high }) => Span {
-            low: low.min(value),
-            high: high.max(value),
-        },
+        Some(range) => widened(range, value),
         None => Span {
             low: value,
             high: value,
         },
+    }
+}
+
+/// A range as far as a value.
+fn widened(range: Span, value: i32) -> Span
+    ensures low { result.low ≡ int_min range.low value }
+    ensures high { result.high ≡ int_max range.high value }
+{
+    Span {
+        low: range.low.min(value),
+        high: range.high.max(value),
     }
 }
 

@@ -9,7 +9,7 @@ use Rattle.hpf_map.proofs.statements.read_items.Goals as goal
 pub loop-item-preserved : goal.loop-item-preserved
 loop-item-preserved c = record {
   threads =
-      Threads-more c.item-item.result c.read_item-read.new.names c.read_item-read.new.breaches c.loop-item.invariant.threads
+      Threads-more c.item-item.result c.read_item.new.names c.read_item.new.breaches c.loop-item.invariant.threads
       c.loop-item-test.true c.item-item.is c.in_ok-read.ensures.names c.in_ok-read.ensures.breaches;
   said =
       threaded_more item_tree names_after (λ before item. statement_subscripts before item ∷ []) c.args.items.now c.loop-item.item-index c.item-item.result
@@ -18,7 +18,7 @@ loop-item-preserved c = record {
       (c.in_ok-push.ensures.items ∙ ap (λ s. c.loop-item.said.items ++ s ∷ []) c.in_ok-read.ensures.subscripts);
   widths =
       threaded_more item_tree names_after (λ before item. statement_widths before item ∷ []) c.args.items.now c.loop-item.item-index c.item-item.result
-      c.new-names.result c.loop-item.names c.loop-item.widths.items c.push-2.new.self.items c.loop-item-test.true c.item-item.is
+      c.new-names.result c.loop-item.names c.loop-item.widths.items c.push-in-loop-item.new.self.items c.loop-item-test.true c.item-item.is
       c.loop-item.invariant.threads.state c.loop-item.invariant.widths
       (c.in_ok-push-2.ensures.items ∙ ap (λ w. c.loop-item.widths.items ++ w ∷ []) c.in_ok-read.ensures.widths);
 }
