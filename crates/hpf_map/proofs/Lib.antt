@@ -31,8 +31,12 @@ pub mod EmptyLemmas
 pub mod FirstUseLemmas
 pub mod UnbrokenLemmas
 pub mod ResolveLemmas
-pub mod EvenLemmas
-pub mod BlockLemmas
+pub mod OverLemmas
+pub mod DimLemmas
+pub mod FormatLemmas
+pub mod RangeLemmas
+pub mod DealingLemmas
+pub mod DistributedLemmas
 pub mod MappingLemmas
 pub mod AlignedLemmas
 pub mod ClearLemmas

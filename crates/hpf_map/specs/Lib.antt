@@ -5,6 +5,7 @@ pub mod Index
 pub mod Hidden
 pub mod Uses
 pub mod Values
+pub mod Ranges
 pub mod Gathered
 pub mod Paired
 pub mod Shapes
@@ -18,6 +19,10 @@ pub mod ShadowWidths
 pub mod Spaces
 pub mod Alignments
 pub mod Distributions
+pub mod Widths
+pub mod Formats
+pub mod Dealing
+pub mod Seen
 pub mod Ways
 pub mod Shadows
 pub mod Ends

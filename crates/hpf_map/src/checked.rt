@@ -11,10 +11,12 @@ ghost use Rattle.hpf_map.specs.Shadows.{first_shadow};
 ghost use Rattle.hpf_map.specs.Subscripts.{all_subscripts};
 ghost use Rattle.hpf_map.specs.Ways.{ways_of};
 ghost use Rattle.hpf_map.specs.ShadowWidths.{all_shadow_widths};
+ghost use Rattle.hpf_map.specs.Widths.{all_widths};
 
 use crate::alignments::test_aligns;
 use crate::breaches::Breaches;
 use crate::cycles::test_cycles;
+use crate::dealing::test_all_formats;
 use crate::distributions::test_distributes;
 use crate::pipeline::test_pipeline;
 use crate::program::Need;
@@ -26,8 +28,8 @@ use hpf_syntax::Item;
 use std::alloc::{AllocError, Global};
 use std::collections::BTreeMap;
 
-/// What a text declares and what its subscripts and widths say, how its names are mapped, and for each array with a shadow
-/// the statement with its first SHADOW.
+/// What a text declares, what its subscripts and widths say, how its names are mapped, and for each array with a shadow the
+/// statement with its first SHADOW.
 #[derive(Drop)]
 pub(crate) struct Checked {
     pub statements: Statements,
@@ -45,8 +47,9 @@ pub(crate) fn check_items(
 ) -> Result<Checked, AllocError>
     ensures names { IfOk result (λ c. c.statements.names ≡ names_of (map item_tree items.now)) }
     ensures said { IfOk result (λ c. c.statements.said.items ≡ all_subscripts (map item_tree items.now)) }
+    ensures widths { IfOk result (λ c. c.statements.widths.items ≡ all_widths (map item_tree items.now)) }
     ensures ways { IfOk result (λ c. c.ways ≡ ways_of (names_of (map item_tree items.now)) (map item_tree items.now)) }
-    ensures widths { IfOk result (λ c. c.statements.shadows.items ≡ all_shadow_widths (map item_tree items.now)) }
+    ensures shadow_widths { IfOk result (λ c. c.statements.shadows.items ≡ all_shadow_widths (map item_tree items.now)) }
     ensures shadows { IfOk result (λ c. (n : ℕ) → get nat_cmp c.first_shadows n
         ≡ first_shadow (names_of (map item_tree items.now)) (map item_tree items.now) n) }
     ensures breaches { OnOk result (breaches.new ≡ least_with breaches.old
@@ -62,6 +65,12 @@ pub(crate) fn check_items(
         breaches,
     )?;
     test_distributes(&statements.names, items, breaches);
+    test_all_formats(
+        &statements.names,
+        items,
+        statements.widths.as_slice(),
+        breaches,
+    );
     let mapped = read_ways(alloc, &statements.names, items, breaches)?;
     test_cycles(alloc, &mapped.ways, mapped.first.as_slice(), breaches)?;
     test_pipeline(

@@ -20,6 +20,20 @@ pub enum Constraint {
     Empty,
     /// A value, a number of bounds, of elements or of names, or an extent is too great.
     Limit,
+    /// The blocks of all processors together are shorter than the dimension.
+    BlockTooSmall,
+    /// A width is below 1.
+    WidthZero,
+    /// There isn't one length for each processor.
+    LengthCount,
+    /// A length is negative.
+    NegativeLength,
+    /// The lengths together are shorter than the dimension.
+    LengthSum,
+    /// There isn't one value for each position.
+    PlaceCount,
+    /// A value is no subscript of the arrangement.
+    PlaceValue,
     /// No arrangement has as many dimensions as a DISTRIBUTE without ONTO divides.
     NoArrangement,
     /// A name is mapped that an earlier directive maps.
@@ -54,6 +68,13 @@ impl Constraint {
             Constraint::Rank => 24,
             Constraint::Empty => 25,
             Constraint::Limit => 26,
+            Constraint::BlockTooSmall => 27,
+            Constraint::WidthZero => 28,
+            Constraint::LengthCount => 29,
+            Constraint::NegativeLength => 30,
+            Constraint::LengthSum => 31,
+            Constraint::PlaceCount => 32,
+            Constraint::PlaceValue => 33,
             Constraint::NoArrangement => 34,
             Constraint::MappedTwice => 35,
             Constraint::DummyTwice => 36,

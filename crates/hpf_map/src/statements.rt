@@ -9,11 +9,13 @@ ghost use Rattle.hpf_map.specs.Layers.{names_of, ordered_breaches, breaches_in, 
 ghost use Rattle.hpf_map.specs.ShadowWidths.{all_shadow_widths, statement_shadow};
 ghost use Rattle.hpf_map.specs.Subscripts.{all_subscripts, statement_subscripts};
 ghost use Rattle.hpf_map.specs.Uses.{item_use_breaches};
+ghost use Rattle.hpf_map.specs.Widths.{all_widths, statement_widths};
 
 use crate::breaches::Breaches;
 use crate::constants::declare_constants;
 use crate::declare::{common_limit, declare_all, dimensions};
 use crate::directives::{Said, read_directive};
+use crate::format_widths::FormatWidths;
 use crate::name::{Dimensions, Shape, Space};
 use crate::names::Names;
 use crate::scope::Scope;
@@ -117,6 +119,7 @@ fn read_item(
 ) -> Result<Said, AllocError>
     ensures names { OnOk result (names.new ≡ names_after names.old (item_tree item.now)) }
     ensures subscripts { IfOk result (λ s. s.subscripts ≡ statement_subscripts names.old (item_tree item.now)) }
+    ensures widths { IfOk result (λ s. s.widths ≡ statement_widths names.old (item_tree item.now)) }
     ensures shadow { IfOk result (λ s. s.shadow ≡ statement_shadow names.old (item_tree item.now)) }
     ensures breaches { OnOk result (breaches.new ≡ least_with breaches.old
         (ordered_breaches names.old (item_tree item.now))) }
@@ -126,16 +129,17 @@ fn read_item(
     Ok(said)
 }
 
-/// What statements declare, and what the subscripts of each say and the widths of its shadow.
+/// What statements declare, what the subscripts of each say, and the widths in its formats and of its shadow.
 #[derive(Drop)]
 pub(crate) struct Statements {
     pub names: Names,
     pub said: Vec<Option<Subscripts>>,
+    pub widths: Vec<Option<FormatWidths>>,
     pub shadows: Vec<Option<ShadowWidths>>,
 }
 
 /// Reads statements one after another.
-#[tactic(auto, using(crate::proofs::FoundLemmas::least_with_laws), unfolding(crate::specs::Subscripts::all_subscripts, crate::specs::ShadowWidths::all_shadow_widths))]
+#[tactic(auto, using(crate::proofs::FoundLemmas::least_with_laws), unfolding(crate::specs::Subscripts::all_subscripts, crate::specs::Widths::all_widths, crate::specs::ShadowWidths::all_shadow_widths))]
 fn read_items(
     alloc: Global,
     items: &[Item],
@@ -143,21 +147,25 @@ fn read_items(
 ) -> Result<Statements, AllocError>
     ensures names { IfOk result (λ s. s.names ≡ fold names_after [] (map item_tree items.now)) }
     ensures said { IfOk result (λ s. s.said.items ≡ all_subscripts (map item_tree items.now)) }
+    ensures widths { IfOk result (λ s. s.widths.items ≡ all_widths (map item_tree items.now)) }
     ensures shadows { IfOk result (λ s. s.shadows.items ≡ all_shadow_widths (map item_tree items.now)) }
     ensures breaches { OnOk result (breaches.new ≡ least_with breaches.old
         (threaded names_after ordered_breaches [] (map item_tree items.now))) }
 {
     let mut names = Names::new(alloc);
     let mut said = Vec::new(alloc);
+    let mut widths = Vec::new(alloc);
     let mut shadows = Vec::new(alloc);
     for item in items {
         let read = read_item(alloc, &mut names, item, breaches)?;
         said.push(read.subscripts)?;
+        widths.push(read.widths)?;
         shadows.push(read.shadow)?;
     }
     Ok(Statements {
         names,
         said,
+        widths,
         shadows,
     })
 }
@@ -173,8 +181,8 @@ fn test_items(names: &Names, items: &[Item], breaches: &mut Breaches)
     }
 }
 
-/// What statements declare, and what their subscripts say and the widths of their shadows. The breaches in names, values,
-/// shapes, lists and widths are taken in.
+/// What statements declare, and what their subscripts and widths say. The breaches in names, values, shapes, lists and widths are
+/// taken in.
 #[tactic(auto, using(crate::proofs::FoundLemmas::least_with_laws), unfolding(crate::specs::Layers::names_of, crate::specs::Layers::breaches_in))]
 pub(crate) fn read_statements(
     alloc: Global,
@@ -183,6 +191,7 @@ pub(crate) fn read_statements(
 ) -> Result<Statements, AllocError>
     ensures names { IfOk result (λ s. s.names ≡ names_of (map item_tree items.now)) }
     ensures said { IfOk result (λ s. s.said.items ≡ all_subscripts (map item_tree items.now)) }
+    ensures widths { IfOk result (λ s. s.widths.items ≡ all_widths (map item_tree items.now)) }
     ensures shadows { IfOk result (λ s. s.shadows.items ≡ all_shadow_widths (map item_tree items.now)) }
     ensures breaches { OnOk result (breaches.new ≡ least_with breaches.old
         (breaches_in (map item_tree items.now))) }

@@ -22,12 +22,12 @@ shadow_of-requires c =
 pub mapped-requires : goal.mapped-requires
 mapped-requires c =
     let have = found c.args.names.now (map item_tree c.args.items.now) c.args.array c.args.landing.now.base c.args.landing.now.statement
-    c.in-Some.shape.now c.in-Some-name_shape.root.now c.in-Some-target_of.target.now c.as_slice.result.now c.in-Some.ensures c.in-Some-name_shape.ensures c.in-Some-target_of.ensures c.as_slice.ensures in
+    c.in-Some.shape.now c.in-Some-name_shape.root.now c.in-Some-dealing_by.dealing c.in-Some.ensures c.in-Some-name_shape.ensures c.in-Some-dealing_by.ensures in
     record {
       shapes =
-          subst (CanBeMapped c.in-Some.shape.now c.in-Some-name_shape.root.now c.as_slice.result.now) (sym c.as_slice-2.ensures)
+          subst (CanBeMapped c.in-Some.shape.now c.in-Some-name_shape.root.now c.in-Some-dealing_by.dealing) (sym c.as_slice.ensures)
           (shapes_map c.args.names.now (map item_tree c.args.items.now) c.args.array c.args.landing.now.base c.args.landing.now.statement c.args.landing.now.images
-          c.in-Some.shape.now c.in-Some-name_shape.root.now c.as_slice.result.now c.requires.can have);
+          c.in-Some.shape.now c.in-Some-name_shape.root.now c.in-Some-dealing_by.dealing c.requires.can have);
       size = subst (λ ws. length ws ≡ length c.in-Some.shape.now) (sym c.in_ok-shadow.ensures) (shadow c).size;
       small = subst (All IsSmallWidth) (sym c.in_ok-shadow.ensures) (shadow c).small;
     }
@@ -36,12 +36,12 @@ pub returns : goal.returns
 returns c =
     let items = map item_tree c.args.items.now in
     let have = found c.args.names.now items c.args.array c.args.landing.now.base c.args.landing.now.statement
-    c.in-Some.shape.now c.in-Some-name_shape.root.now c.in-Some-target_of.target.now c.as_slice.result.now c.in-Some.ensures c.in-Some-name_shape.ensures c.in-Some-target_of.ensures c.as_slice.ensures in
-    ok_of (IsMapped c.in-Some.shape.now c.in-Some-name_shape.root.now c.as_slice.result.now c.as_slice-2.result.now c.in_ok-shadow.shadow)
+    c.in-Some.shape.now c.in-Some-name_shape.root.now c.in-Some-dealing_by.dealing c.in-Some.ensures c.in-Some-name_shape.ensures c.in-Some-dealing_by.ensures in
+    ok_of (IsMapped c.in-Some.shape.now c.in-Some-name_shape.root.now c.in-Some-dealing_by.dealing c.as_slice.result.now c.in_ok-shadow.shadow)
     (IsMappingOf c.args.names.now items c.args.array c.args.landing.now.base c.args.landing.now.statement)
     (λ m is.
     shapes_mapping c.args.names.now items c.args.array c.args.landing.now.base c.args.landing.now.statement c.args.landing.now.images
-    c.in-Some.shape.now c.in-Some-name_shape.root.now c.as_slice.result.now c.requires.can have
+    c.in-Some.shape.now c.in-Some-name_shape.root.now c.in-Some-dealing_by.dealing c.requires.can have
     c.in_ok-shadow.shadow (subst (IsShadow c.args.names.now items c.args.array (length c.in-Some.shape.now)) (sym c.in_ok-shadow.ensures) (shadow c)) m
-    (subst (λ images. IsMapped c.in-Some.shape.now c.in-Some-name_shape.root.now c.as_slice.result.now images c.in_ok-shadow.shadow m) c.as_slice-2.ensures is))
+    (subst (λ images. IsMapped c.in-Some.shape.now c.in-Some-name_shape.root.now c.in-Some-dealing_by.dealing images c.in_ok-shadow.shadow m) c.as_slice.ensures is))
     c.mapped.result c.mapped.ensures

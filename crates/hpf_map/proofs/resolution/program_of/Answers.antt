@@ -31,7 +31,7 @@ returns c =
 
 -- the widths of all arrays
 shadows : (c : goal.In_ok-landings) → AreShadows (map item_tree c.args.items.now) c.args.checked.statements.shadows.items c.args.checked.first_shadows
-shadows c = shadows_are c.args.need (map item_tree c.args.items.now) c.args.checked.statements.shadows.items c.args.checked.first_shadows c.requires.none c.requires.widths c.requires.shadows
+shadows c = shadows_are c.args.need (map item_tree c.args.items.now) c.args.checked.statements.shadows.items c.args.checked.first_shadows c.requires.none c.requires.shadow_widths c.requires.shadows
 
 pub all_mappings-requires-clause-shadows : goal.all_mappings-requires-clause-shadows
 all_mappings-requires-clause-shadows c = shadows c
