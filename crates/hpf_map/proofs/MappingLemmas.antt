@@ -219,7 +219,7 @@ module _ (names : List Name) (items : List ItemTree) (array base statement : ℕ
 
   sizes_are : sizes_by names items statement ≡ map extent dealt.target
   unfolding sizes_by
-  sizes_are = ap sizes_of have.has_dealing
+  sizes_are = ap (sizes_of names items) have.has_dealing
 
   -- the owners by a landing with the images of the dimensions
   abbrev OwnersAre : PlainMapping → List Image → Type 0

@@ -4,13 +4,14 @@ use Rattle.hpf_own.specs.Mapping.{IsSmallWidth}
 use Rattle.hpf_syntax.specs.Plain.{item_tree}
 use Rattle.hpf_map.specs.Mapped.{CanBeMapped, IsMapped}
 use Rattle.hpf_map.specs.Ownership.{IsMappingOf}
+use Rattle.hpf_map.specs.Seen.{seen}
 use Rattle.hpf_map.specs.Shaded.{or_none, IsShadow}
 use Rattle.hpf_map.proofs.DirectLemmas.{ok_of}
 use Rattle.hpf_map.proofs.MappingLemmas.{array_sound, found, shapes_map, shapes_mapping}
 use Rattle.hpf_map.proofs.mapped.array_mapping.Goals as goal
 
 -- the widths of the array
-shadow : (c : goal.In-Some) → IsShadow c.args.names.now (map item_tree c.args.items.now) c.args.array (length c.in-Some.shape.now) (or_none (length c.in-Some.shape.now) (option_copied c.args.given))
+shadow : (c : goal.In-Some-dealing_by) → IsShadow c.args.names.now (map item_tree c.args.items.now) c.args.array (length c.in-Some.shape.now) (or_none (length c.in-Some.shape.now) (option_copied c.args.given))
 shadow c = c.requires.shadow c.in-Some.shape.now (sym c.in-Some.ensures)
 
 pub shadow_of-requires : goal.shadow_of-requires
@@ -22,12 +23,12 @@ shadow_of-requires c =
 pub mapped-requires : goal.mapped-requires
 mapped-requires c =
     let have = found c.args.names.now (map item_tree c.args.items.now) c.args.array c.args.landing.now.base c.args.landing.now.statement
-    c.in-Some.shape.now c.in-Some-name_shape.root.now c.in-Some-dealing_by.dealing c.in-Some.ensures c.in-Some-name_shape.ensures c.in-Some-dealing_by.ensures in
+    c.in-Some.shape.now c.in-Some-name_shape.root.now (seen c.in-Some-dealing_by.dealing) c.in-Some.ensures c.in-Some-name_shape.ensures c.in-Some-dealing_by.ensures in
     record {
       shapes =
-          subst (CanBeMapped c.in-Some.shape.now c.in-Some-name_shape.root.now c.in-Some-dealing_by.dealing) (sym c.as_slice.ensures)
+          subst (CanBeMapped c.in-Some.shape.now c.in-Some-name_shape.root.now (seen c.in-Some-dealing_by.dealing)) (sym c.as_slice.ensures)
           (shapes_map c.args.names.now (map item_tree c.args.items.now) c.args.array c.args.landing.now.base c.args.landing.now.statement c.args.landing.now.images
-          c.in-Some.shape.now c.in-Some-name_shape.root.now c.in-Some-dealing_by.dealing c.requires.can have);
+          c.in-Some.shape.now c.in-Some-name_shape.root.now (seen c.in-Some-dealing_by.dealing) c.requires.can have);
       size = subst (λ ws. length ws ≡ length c.in-Some.shape.now) (sym c.in_ok-shadow.ensures) (shadow c).size;
       small = subst (All IsSmallWidth) (sym c.in_ok-shadow.ensures) (shadow c).small;
     }
@@ -36,12 +37,12 @@ pub returns : goal.returns
 returns c =
     let items = map item_tree c.args.items.now in
     let have = found c.args.names.now items c.args.array c.args.landing.now.base c.args.landing.now.statement
-    c.in-Some.shape.now c.in-Some-name_shape.root.now c.in-Some-dealing_by.dealing c.in-Some.ensures c.in-Some-name_shape.ensures c.in-Some-dealing_by.ensures in
-    ok_of (IsMapped c.in-Some.shape.now c.in-Some-name_shape.root.now c.in-Some-dealing_by.dealing c.as_slice.result.now c.in_ok-shadow.shadow)
+    c.in-Some.shape.now c.in-Some-name_shape.root.now (seen c.in-Some-dealing_by.dealing) c.in-Some.ensures c.in-Some-name_shape.ensures c.in-Some-dealing_by.ensures in
+    ok_of (IsMapped c.in-Some.shape.now c.in-Some-name_shape.root.now (seen c.in-Some-dealing_by.dealing) c.as_slice.result.now c.in_ok-shadow.shadow)
     (IsMappingOf c.args.names.now items c.args.array c.args.landing.now.base c.args.landing.now.statement)
     (λ m is.
     shapes_mapping c.args.names.now items c.args.array c.args.landing.now.base c.args.landing.now.statement c.args.landing.now.images
-    c.in-Some.shape.now c.in-Some-name_shape.root.now c.in-Some-dealing_by.dealing c.requires.can have
+    c.in-Some.shape.now c.in-Some-name_shape.root.now (seen c.in-Some-dealing_by.dealing) c.requires.can have
     c.in_ok-shadow.shadow (subst (IsShadow c.args.names.now items c.args.array (length c.in-Some.shape.now)) (sym c.in_ok-shadow.ensures) (shadow c)) m
-    (subst (λ images. IsMapped c.in-Some.shape.now c.in-Some-name_shape.root.now c.in-Some-dealing_by.dealing images c.in_ok-shadow.shadow m) c.as_slice.ensures is))
+    (subst (λ images. IsMapped c.in-Some.shape.now c.in-Some-name_shape.root.now (seen c.in-Some-dealing_by.dealing) images c.in_ok-shadow.shadow m) c.as_slice.ensures is))
     c.mapped.result c.mapped.ensures
