@@ -100,8 +100,8 @@ pub record Owns (names : List Name) (items : List ItemTree) (array processor : �
   pub distributed : way_at (ways_of names items) base ≡ Distributed statement
   pub owned : owns_by names items statement base processor position ≡ true
 
--- A mapping is that of an array: its bounds, the widths of its own SHADOW, the processors of the arrangement onto which its ultimate base is
--- distributed, and of each element the owners that the statements give.
+-- A mapping is that of an array: its bounds, the widths of its own SHADOW, the processors of the arrangement onto which its
+-- ultimate base is distributed, and of each element the owners that the statements give.
 pub record IsMappingOf (names : List Name) (items : List ItemTree) (array base statement : ℕ) (m : PlainMapping) : Type 0 where
   pub bounds : option_map (map run_of) (shape_at names items array) ≡ Some m.bounds
   pub shadow : shadow_at names items array (length m.bounds) ≡ Some m.shadow

@@ -10,7 +10,7 @@ use Rattle.hpf_map.proofs.MappingLemmas.{array_sound, found, shapes_map, shapes_
 use Rattle.hpf_map.proofs.mapped.array_mapping.Goals as goal
 
 -- the widths of the array
-shadow : (c : goal.In-Some) → IsShadow c.args.names.now (map item_tree c.args.items.now) c.args.array (length c.in-Some.shape.now) (or_none (length c.in-Some.shape.now) (option_copied c.args.given))
+shadow : (c : goal.In-Some-target_of) → IsShadow c.args.names.now (map item_tree c.args.items.now) c.args.array (length c.in-Some.shape.now) (or_none (length c.in-Some.shape.now) (option_copied c.args.given))
 shadow c = c.requires.shadow c.in-Some.shape.now (sym c.in-Some.ensures)
 
 pub shadow_of-requires : goal.shadow_of-requires
