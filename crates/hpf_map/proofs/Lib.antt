@@ -16,6 +16,7 @@ pub mod ComposedLemmas
 pub mod MoveLemmas
 pub mod PlainLemmas
 pub mod WayRows
+pub mod ShadowRows
 pub mod WayLemmas
 pub mod WalkLemmas
 pub mod CycleLemmas

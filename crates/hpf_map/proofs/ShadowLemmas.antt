@@ -3,6 +3,7 @@ use Rattle.std.proofs.Common.{◌≡◌, ◌==◌, ℕ, ◌+◌, ◌<◌, Bool, 
 use Rattle.std.specs.BTreeMap.{BTreeMap, get, Updates}
 use Rattle.std.specs.Cmp.{unsigned_ties}
 use Rattle.std.specs.List.{find}
+use Rattle.std.specs.Map.{lookup}
 use Rattle.std.specs.Option.{option_or}
 use Rattle.std.specs.Ordering.{nat_cmp, is_eq}
 use Rattle.std.specs.Prelude.{option_map, fold, is_some}
@@ -20,7 +21,7 @@ use Rattle.hpf_map.specs.Found.{least_with}
 use Rattle.hpf_map.specs.Shaded.{HasFirst}
 use Rattle.hpf_map.specs.Shadows.{statement_shadow_uses, shadow_uses_from, first_among, again_breaches}
 use Rattle.hpf_map.proofs.DeclareLemmas.{threaded_push, seen_more}
-use Rattle.hpf_map.proofs.FoundLemmas.{least_with-append}
+use Rattle.hpf_map.proofs.FoundLemmas.{least_with-nil, least_with-append}
 
 pub widths_seen : (widths : List WidthItem) → length (map width_tree widths) ≡ length widths
 widths_seen widths = simp length-map
@@ -118,6 +119,14 @@ pub record AreFound (uses : List ShadowUse) (i : ℕ) (first : BTreeMap ℕ ℕ)
   pub statements : HasFirst (take i uses) first
   pub breaches : h1 ≡ least_with h0 (threaded grown again_breaches [] (take i uses))
 
+-- no use yet
+pub AreFound-none : (uses : List ShadowUse) (first : BTreeMap ℕ ℕ) (found : Option MapRefusal) → first.entries ≡ [] → AreFound uses 0 first found found
+AreFound-none uses first found empty = record {
+  statements = λ n. ap (lookup (λ k. is_eq (nat_cmp n k))) empty;
+  breaches = sym (least_with-nil found);
+}
+
+-- one use more
 pub AreFound-more : (uses : List ShadowUse) (i : ℕ) (first after : BTreeMap ℕ ℕ) (h0 h1 h2 : Option MapRefusal) → AreFound uses i first h0 h1 → i < length uses
     → HasFirst (take i uses ++ shadow_use_at uses i ∷ []) after → h2 ≡ least_with h1 (again_breaches (take i uses) (shadow_use_at uses i))
     → AreFound uses (i + 1) after h0 h2

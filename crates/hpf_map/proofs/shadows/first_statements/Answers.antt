@@ -1,6 +1,9 @@
-use Rattle.hpf_map.proofs.ShadowLemmas.{AreFound-more, shadow_use_at}
+use Rattle.hpf_map.proofs.ShadowLemmas.{AreFound-none, AreFound-more}
 use Rattle.std.proofs.Common.{take}
 use Rattle.hpf_map.proofs.shadows.first_statements.Goals as goal
+
+pub loop-used-init : goal.loop-used-init
+loop-used-init c = AreFound-none c.args.uses.now c.new-first.result c.args.breaches.now c.new-first.ensures.empty
 
 pub loop-used-preserved : goal.loop-used-preserved
 loop-used-preserved c =
