@@ -1,52 +1,47 @@
 -- Who owns a position, by formats and by cuts.
-use Rattle.std.proofs.Common.{◌≡◌, ◌==◌, ℕ, zero, suc, ◌+◌, ◌<◌, Bool, true, false, ◌&&◌, List, [], ◌∷◌, length, map, get_or, drop, ℤ, arith, sym, ap, ◌∙◌, refl}
-use Rattle.std.proofs.lemmas.List.{length-map}
+use Rattle.std.proofs.Common.{◌≡◌, ◌==◌, ℕ, zero, suc, ◌+◌, ◌<◌, Bool, true, false, ◌&&◌, List, [], ◌∷◌, length, map, get_or, Option, Some, None, ℤ, pos, arith, sym, ap, ◌∙◌, refl}
+use Rattle.std.specs.List.{list_all, range_with_len}
 use Rattle.hpf_dist.specs.Axis.{before}
-use Rattle.hpf_dist.specs.Owner.{own, even_block}
+use Rattle.hpf_dist.specs.declared.format.Format.{Format}
 use Rattle.hpf_own.specs.declared.image.BaseDim.{BaseDim}
-use Rattle.hpf_own.specs.declared.image.Cut.{Cut}
+use Rattle.hpf_own.specs.declared.image.Image.{Image}
 use Rattle.hpf_own.specs.Owners.{is_owned, is_owned_whole}
-use Rattle.hpf_syntax.specs.Plain.{FormatTree}
 use Rattle.hpf_map.specs.declared.name.Span.{Span}
-use Rattle.hpf_map.specs.Cuts.{AreCuts, NoCut, WholeCut, BlockCut}
-use Rattle.hpf_map.specs.Ownership.{owned_at}
+use Rattle.hpf_map.specs.Alignments.{no_span}
+use Rattle.hpf_map.specs.Cuts.{cut_with}
+use Rattle.hpf_map.specs.Dealing.{Dealt, over, target_at, format_at}
+use Rattle.hpf_map.specs.Mapped.{no_dim, AreCut}
+use Rattle.hpf_map.specs.Ownership.{is_owner, is_owned_in, owned_at}
 use Rattle.hpf_map.specs.Shapes.{extent}
 
-dropped : (at : List ℕ) (e : ℕ) → e < length at → drop e at ≡ get_or at e 0 ∷ drop (e + 1) at
-dropped [] e below = absurd (omega arith)
-dropped (c ∷ at) zero below = refl
-dropped (c ∷ at) (suc e) below =
-    let next : suc e + 1 ≡ suc (e + 1) = omega arith in
-    rw next (dropped at e (omega arith))
+-- what is asked of each dimension, one after another
+owned_from : (f : ℕ → Bool) (a : ℕ) (dims : List BaseDim) (at : List ℕ) (position : List ℤ) → length position ≡ length dims
+    → ((k : ℕ) → k < length dims → f (a + k) ≡ is_owned (get_or dims k no_dim).cut at (get_or position k (pos 0)))
+    → list_all f (range_with_len a (length dims)) ≡ is_owned_whole dims at position
+owned_from f a [] at position long h = refl
+owned_from f a (d ∷ dims) at [] long h = absurd (omega arith)
+owned_from f a (d ∷ dims) at (u ∷ position) long h =
+    let here : a ≡ a + 0 = omega arith in
+    let first : f a ≡ is_owned d.cut at u = ap f here ∙ h 0 (omega arith) in
+    let next = λ (k : ℕ). let same : a + 1 + k ≡ a + suc k = omega arith in same in
+    rw first (ap (λ b. is_owned d.cut at u && b) (owned_from f (a + 1) dims at position (omega arith) (λ k below. ap f (next k) ∙ h (suc k) (omega arith))))
 
--- whether a position is owned in each dimension
-abbrev owned_by : List Cut → List ℕ → List ℤ → Bool
-owned_by [] at position = true
-owned_by (cut ∷ cuts) at [] = false
-owned_by (cut ∷ cuts) at (u ∷ position) = is_owned cut at u && owned_by cuts at position
-
-by_cuts : (dims : List BaseDim) (at : List ℕ) (position : List ℤ) → is_owned_whole dims at position ≡ owned_by (map (λ d. d.cut) dims) at position
-by_cuts [] at position = refl
-by_cuts (d ∷ dims) at [] = refl
-by_cuts (d ∷ dims) at (u ∷ position) = ap (λ b. is_owned d.cut at u && b) (by_cuts dims at position)
-
-owned_cuts : (e : ℕ) (formats : List FormatTree) (spans : List Span) (sizes : List ℕ) (cuts : List Cut) (at : List ℕ) (position : List ℤ)
-    → AreCuts e formats spans sizes cuts → length at ≡ e + length sizes → length position ≡ length cuts
-    → owned_at formats spans sizes (drop e at) position ≡ owned_by cuts at position
-unfolding owned_at
-owned_cuts e formats spans sizes cuts at position (NoCut d) many long = refl
-owned_cuts e formats spans sizes cuts at [] (WholeCut d star fs s ss ns cs are) many long = absurd (omega arith)
-owned_cuts e formats spans sizes cuts at (u ∷ position) (WholeCut d star fs s ss ns cs are) many long =
-    owned_cuts e fs ss sizes cs at position are many (omega arith)
-owned_cuts e formats spans sizes cuts at [] (BlockCut d place fs s ss n ns cs are) many long = absurd (omega arith)
-owned_cuts e formats spans sizes cuts at (u ∷ position) (BlockCut d place fs s ss n ns cs are) many long =
-    rw (dropped at e (omega arith))
-    (ap (λ b. (own (even_block (extent s) n) n (before s.low u) == get_or at e 0) && b) (owned_cuts (e + 1) fs ss ns cs at position are (omega arith) (omega arith)))
+-- a dimension is owned by its format where it is by its cut
+same_owner : (dealt : Dealt) (root : List Span) (at : List ℕ) (k : ℕ) (u : ℤ) (o : Option Format)
+    → is_owner o (extent (target_at dealt root k)) (before (get_or root k no_span).low u) (get_or at (over dealt.formats k) 0) ≡ is_owned (cut_with dealt root o k) at u
+same_owner dealt root at k u None = refl
+same_owner dealt root at k u (Some f) = refl
 
 -- a position is owned by the formats where it is owned by the cuts
-pub cuts_own : (formats : List FormatTree) (spans : List Span) (sizes : List ℕ) (dims : List BaseDim) (at : List ℕ) (position : List ℤ)
-    → AreCuts 0 formats spans sizes (map (λ d. d.cut) dims) → length at ≡ length sizes → length position ≡ length dims
-    → owned_at formats spans sizes at position ≡ is_owned_whole dims at position
-cuts_own formats spans sizes dims at position are many long =
-    owned_cuts 0 formats spans sizes (map (λ d. d.cut) dims) at position are (omega arith) (long ∙ sym (length-map dims (λ d. d.cut)))
-    ∙ sym (by_cuts dims at position)
+pub cuts_own : (dealt : Dealt) (root : List Span) (images : List Image) (dims : List BaseDim) (at : List ℕ) (position : List ℤ) → AreCut dealt root images dims
+    → length dealt.formats ≡ length root → length position ≡ length dims → owned_at dealt root at position ≡ is_owned_whole dims at position
+unfolding owned_at
+cuts_own dealt root images dims at position cut rank long =
+    let many : length dealt.formats ≡ length dims = rank ∙ sym cut.size in
+    ap (λ n. list_all (is_owned_in dealt root at position) (range_with_len 0 n)) many
+    ∙ owned_from (is_owned_in dealt root at position) 0 dims at position long
+      (λ k below.
+      let zero_first : 0 + k ≡ k = omega arith in
+      ap (is_owned_in dealt root at position) zero_first
+      ∙ same_owner dealt root at k (get_or position k (pos 0)) (format_at dealt root k)
+      ∙ ap (λ (d : BaseDim). is_owned d.cut at (get_or position k (pos 0))) (sym (cut.each k below)))

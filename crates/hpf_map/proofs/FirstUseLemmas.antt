@@ -112,7 +112,7 @@ stands_in names k (item ∷ items) used has = elim (Contains-append_cases (state
 ]
 
 -- one of those that are found
-found_of : {A B : Type 0} (f : A → Option B) (xs : List A) (y : B) → Contains (filter_map f xs) y → (x : A) × Contains xs x × (f x ≡ Some y)
+pub found_of : {A B : Type 0} (f : A → Option B) (xs : List A) (y : B) → Contains (filter_map f xs) y → (x : A) × Contains xs x × (f x ≡ Some y)
 found_of f [] y has = absurd (contains_none y has)
 found_of {A = A} f (x ∷ xs) y has = by (f x) refl has (found_of f xs y) where
   by : (o : Option _) → f x ≡ o → Contains (cons_option o (filter_map f xs)) y → (Contains (filter_map f xs) y → (z : A) × Contains xs z × (f z ≡ Some y))

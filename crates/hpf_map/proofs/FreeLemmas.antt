@@ -124,7 +124,7 @@ value_there before h (Times at a b) names operators =
     (value_there before h b (others_empty _ _ names) (others_empty _ _ (first_empty _ _ operators)))
     (others_empty _ _ operators)
 
-expression_there : (before : List name.Name) → All IsUsable before → (e : Tree) → expression_breaches before e ≡ [] → HasValue (value before e)
+pub expression_there : (before : List name.Name) → All IsUsable before → (e : Tree) → expression_breaches before e ≡ [] → HasValue (value before e)
 unfolding expression_breaches
 expression_there before h e none = value_there before h e (first_empty _ _ none) (others_empty _ _ none)
 

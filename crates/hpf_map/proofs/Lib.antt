@@ -16,6 +16,7 @@ pub mod ComposedLemmas
 pub mod MoveLemmas
 pub mod PlainLemmas
 pub mod WayRows
+pub mod ShadowRows
 pub mod WayLemmas
 pub mod WalkLemmas
 pub mod CycleLemmas
@@ -31,10 +32,17 @@ pub mod EmptyLemmas
 pub mod FirstUseLemmas
 pub mod UnbrokenLemmas
 pub mod ResolveLemmas
-pub mod EvenLemmas
-pub mod BlockLemmas
+pub mod OverLemmas
+pub mod DimLemmas
+pub mod FormatLemmas
+pub mod RangeLemmas
+pub mod DealingLemmas
+pub mod DistributedLemmas
 pub mod MappingLemmas
 pub mod AlignedLemmas
 pub mod ClearLemmas
 pub mod FitLemmas
 pub mod FreeLemmas
+pub mod ShadowLemmas
+pub mod ShadowWidthLemmas
+pub mod ShadedLemmas

@@ -1,15 +1,15 @@
 -- The mapping of an array that is made of the shapes of names has the owners that the statements give.
 use Rattle.std.proofs.Common.{◌≡◌, ℕ, zero, suc, ◌<◌, ◌≤◌, Bool, true, false, cond, ◌&&◌, List, [], ◌∷◌, length, map, get_or, All, Option, Some, None, ℤ, arith, sym, ap, ◌∙◌, subst, refl}
-use Rattle.std.specs.Prelude.{IfSome, ◌↔◌, IsTrue, slice_get, option_map, option_and_then, replicate}
+use Rattle.std.specs.Prelude.{IfSome, ◌↔◌, IsTrue, slice_get, option_map, option_and_then}
 use Rattle.std.specs.List.{find}
 use Rattle.std.proofs.lemmas.Bool.{false≢true, and_parts}
 use Rattle.std.proofs.lemmas.List.{length-map}
 use Rattle.std.proofs.lemmas.List.Elements.{All-head, All-tail}
-use Rattle.hpf_own.specs.KeptLists.{no_width}
 use Rattle.hpf_own.specs.Mapping.{PlainMapping}
 use Rattle.hpf_own.specs.Owners.{owns}
 use Rattle.hpf_own.specs.Space.{product, LiesIn}
 use Rattle.hpf_own.specs.declared.image.Image.{Image}
+use Rattle.hpf_own.specs.declared.widths.Width.{Width}
 use Rattle.hpf_syntax.specs.Plain.{FormatTree, ItemTree}
 use Rattle.hpf_syntax.specs.declared.tree.Spot.{Spot}
 use Rattle.hpf_map.specs.declared.name.Dimensions.{Dimensions}
@@ -21,17 +21,19 @@ use Rattle.hpf_map.specs.declared.name.Space.TheVariants as space
 use Rattle.hpf_map.specs.declared.name.Span.{Span}
 use Rattle.hpf_map.specs.declared.role.Role.TheVariants as role
 use Rattle.hpf_map.specs.Composed.{AreImages}
+use Rattle.hpf_map.specs.Dealing.{Dealt}
 use Rattle.hpf_map.specs.Distributions.{divided, is_arrangement, fits, fits_meaning, target, free_shape, target_shape}
 use Rattle.hpf_map.specs.Known.{known, is_named}
 use Rattle.hpf_map.specs.Landings.{IsLanding}
-use Rattle.hpf_map.specs.Mapped.{CanBeMapped, IsMapped, target_of, CanMap}
-use Rattle.hpf_map.specs.Ownership.{shape_at, sizes_by, Owns, IsMappingOf}
+use Rattle.hpf_map.specs.Mapped.{CanBeCut, CanBeMapped, IsMapped, CanMap}
+use Rattle.hpf_map.specs.Ownership.{shape_at, dealing_by, sizes_of, sizes_by, Owns, IsMappingOf}
+use Rattle.hpf_map.specs.Shaded.{IsShadow}
+use Rattle.hpf_map.specs.Shadows.{shadow_at}
 use Rattle.hpf_map.specs.Shapes.{extent, extent_limit, max_extent}
 use Rattle.hpf_map.specs.Sound.{IsSoundSpan, IsSoundShape, IsSoundMeaning, AreSoundNames}
 use Rattle.hpf_map.specs.Spaces.{run_of, meaning_shape, fit}
 use Rattle.hpf_map.specs.Uses.{suits}
-use Rattle.hpf_map.proofs.BlockLemmas.{all_divided, even_cuts}
-use Rattle.hpf_map.proofs.EvenLemmas.{even_images}
+use Rattle.hpf_map.proofs.DimLemmas.{cut_images}
 use Rattle.hpf_map.proofs.LandingLemmas.{same_some}
 use Rattle.hpf_map.proofs.OwnerLemmas.{owners_are}
 
@@ -69,7 +71,7 @@ limit_below space.Array = omega arith
 limit_below space.Template = omega arith
 limit_below space.Arrangement = omega arith
 
-abbrev AreSoundSpans : List Span → Type 0
+abbrev pub AreSoundSpans : List Span → Type 0
 AreSoundSpans spans = All (IsSoundSpan max_extent) spans
 
 wide_spans : (what : Space) (spans : List Span) → All (IsSoundSpan (extent_limit what)) spans → AreSoundSpans spans
@@ -87,7 +89,7 @@ meaning_spans (meaning.Constant v) h = tt
 meaning_spans (meaning.List values) h = tt
 
 -- the shape of a meaning that is an array's or an arrangement's
-abbrev IsShapeOf : Space → List Span → Type 0
+abbrev pub IsShapeOf : Space → List Span → Type 0
 IsShapeOf what spans = IsSoundShape what (length spans) spans
 
 shaped : (what : Space) (d : Dimensions) → IsSoundMeaning (meaning.Shaped what d) → IfSome d.shape (IsShapeOf what)
@@ -156,58 +158,53 @@ free_target names (Some n) h = by n.free where
   by true = arrangement_shape n.meaning h.0 h.1
   by false = tt
 
-target_sound : (names : List Name) (formats : List FormatTree) (onto : Option Spot) (spans : List Span) → AreSoundNames names → target_shape names formats onto ≡ Some spans
+pub target_sound : (names : List Name) (formats : List FormatTree) (onto : Option Spot) (spans : List Span) → AreSoundNames names → target_shape names formats onto ≡ Some spans
     → IsShapeOf space.Arrangement spans
 target_sound names formats onto spans h is =
     if_some (IsShapeOf space.Arrangement) (target_shape names formats onto) spans (free_target names (target names formats onto) (target_is names formats onto h)) is
 
+pub root_sound : (names : List Name) (items : List ItemTree) (base : ℕ) (root : List Span) → AreSoundNames names → shape_at names items base ≡ Some root → AreSoundSpans root
+root_sound names items base root h is = if_some AreSoundSpans (shape_at names items base) root (by (slice_get names base) refl) is where
+  by : (o : Option Name) → slice_get names base ≡ o → IfSome (option_and_then (λ n. meaning_shape n.meaning) o) AreSoundSpans
+  by None e = tt
+  by (Some n) e = meaning_spans n.meaning (at_name (λ m. IsSoundMeaning m.meaning) names base n h e)
+
 -- ---- the shapes that a mapping is made of
 
 -- what is found of an array, its ultimate base and a statement
-pub record Shapes (names : List Name) (items : List ItemTree) (array base statement : ℕ) (shape root target : List Span) : Type 0 where
+pub record Shapes (names : List Name) (items : List ItemTree) (array base statement : ℕ) (shape root : List Span) (dealt : Dealt) : Type 0 where
   pub has_shape : shape_at names items array ≡ Some shape
   pub has_root : shape_at names items base ≡ Some root
-  pub has_target : target_of names (slice_get items statement) ≡ Some target
+  pub has_dealing : dealing_by names items statement ≡ Some dealt
 
 -- as the code finds them
-pub found : (names : List Name) (items : List ItemTree) (array base statement : ℕ) (shape root arrangement seen : List Span) → Some shape ≡ shape_at names items array → Some root ≡ shape_at names items base
-    → Some arrangement ≡ target_of names (slice_get items statement) → seen ≡ arrangement → Shapes names items array base statement shape root seen
-found names items array base statement shape root arrangement seen first last onto same = record {
-  has_shape = sym first;
-  has_root = sym last;
-  has_target = sym onto ∙ ap Some (sym same);
-}
+pub found : (names : List Name) (items : List ItemTree) (array base statement : ℕ) (shape root : List Span) (dealt : Dealt) → Some shape ≡ shape_at names items array → Some root ≡ shape_at names items base
+    → Some dealt ≡ dealing_by names items statement → Shapes names items array base statement shape root dealt
+found names items array base statement shape root dealt first last by = record { has_shape = sym first; has_root = sym last; has_dealing = sym by }
 
-module _ (names : List Name) (items : List ItemTree) (array base statement : ℕ) (images : List Image) (shape root arrangement : List Span)
-    (can : CanMap names items array base statement images) (have : Shapes names items array base statement shape root arrangement) where
+-- the shape of an array that can be mapped
+pub array_sound : (names : List Name) (items : List ItemTree) (array base statement : ℕ) (images : List Image) → CanMap names items array base statement images → (shape : List Span)
+    → shape_at names items array ≡ Some shape → IsShapeOf space.Array shape
+array_sound names items array base statement images can shape has =
+    let d = can.is_array.dimensions in
+    let sound : IsSoundMeaning can.name.meaning = at_name (λ n. IsSoundMeaning n.meaning) names array can.name can.sound can.named in
+    let there : option_and_then (λ n. meaning_shape n.meaning) (Some can.name) ≡ Some shape = sym (ap (option_and_then (λ (n : Name). meaning_shape n.meaning)) can.named) ∙ has in
+    let is : d.shape ≡ Some shape = sym (ap meaning_shape can.is_array.is) ∙ there in
+    if_some (IsShapeOf space.Array) d.shape shape (shaped space.Array d (subst IsSoundMeaning can.is_array.is sound)) is
+
+module _ (names : List Name) (items : List ItemTree) (array base statement : ℕ) (images : List Image) (shape root : List Span) (dealt : Dealt)
+    (can : CanMap names items array base statement images) (have : Shapes names items array base statement shape root dealt) where
   is_root : can.distributed.root ≡ root
   is_root = same_some (shape_at names items base) can.distributed.root root can.distributed.has_root have.has_root
 
-  target_here : target_shape names can.distributed.formats can.distributed.onto ≡ Some arrangement
-  target_here = sym (ap (target_of names) can.distributed.said) ∙ have.has_target
+  is_dealt : can.distributed.dealt ≡ dealt
+  is_dealt = same_some (dealing_by names items statement) can.distributed.dealt dealt can.distributed.said have.has_dealing
 
-  is_target : can.distributed.target ≡ arrangement
-  is_target = same_some _ can.distributed.target arrangement can.distributed.has_target target_here
-
-  rank : length can.distributed.formats ≡ length root
-  rank = can.distributed.rank ∙ ap length is_root
-
-  over : length root ≡ length arrangement
-  over = sym rank ∙ sym (all_divided can.distributed.formats can.distributed.built) ∙ can.distributed.over ∙ ap length is_target
+  cut : CanBeCut dealt root
+  cut = subst (λ r. CanBeCut dealt r) is_root (subst (λ d. CanBeCut d can.distributed.root) is_dealt can.distributed.cut)
 
   array_is : IsShapeOf space.Array shape
-  array_is =
-      let d = can.is_array.dimensions in
-      let sound : IsSoundMeaning can.name.meaning = at_name (λ n. IsSoundMeaning n.meaning) names array can.name can.sound can.named in
-      let there : option_and_then (λ n. meaning_shape n.meaning) (Some can.name) ≡ Some shape = sym (ap (option_and_then (λ (n : Name). meaning_shape n.meaning)) can.named) ∙ have.has_shape in
-      let is : d.shape ≡ Some shape = sym (ap meaning_shape can.is_array.is) ∙ there in
-      if_some (IsShapeOf space.Array) d.shape shape (shaped space.Array d (subst IsSoundMeaning can.is_array.is sound)) is
-
-  root_is : AreSoundSpans root
-  root_is = if_some AreSoundSpans (shape_at names items base) root (by (slice_get names base) refl) have.has_root where
-    by : (o : Option Name) → slice_get names base ≡ o → IfSome (option_and_then (λ n. meaning_shape n.meaning) o) AreSoundSpans
-    by None e = tt
-    by (Some n) e = meaning_spans n.meaning (at_name (λ m. IsSoundMeaning m.meaning) names base n can.sound e)
+  array_is = array_sound names items array base statement images can shape have.has_shape
 
   images_are : AreImages shape root images
   images_are =
@@ -217,18 +214,12 @@ module _ (names : List Name) (items : List ItemTree) (array base statement : ℕ
       subst (λ r. AreImages shape r images) last (subst (λ s. AreImages s l.root images) first l.images_are)
 
   -- from these shapes a mapping can be made
-  pub shapes_map : CanBeMapped shape root arrangement images
-  shapes_map = record {
-    array_is = array_is;
-    target_is = target_sound names can.distributed.formats can.distributed.onto arrangement can.sound target_here;
-    root_is = root_is;
-    over = over;
-    images_are = images_are;
-  }
+  pub shapes_map : CanBeMapped shape root dealt images
+  shapes_map = record { array_is = array_is; cut = cut; images_are = images_are }
 
-  sizes_are : sizes_by names items statement ≡ map extent arrangement
+  sizes_are : sizes_by names items statement ≡ map extent dealt.target
   unfolding sizes_by
-  sizes_are = rw (can.distributed.said, target_here) refl
+  sizes_are = ap (sizes_of names items) have.has_dealing
 
   -- the owners by a landing with the images of the dimensions
   abbrev OwnersAre : PlainMapping → List Image → Type 0
@@ -236,21 +227,19 @@ module _ (names : List Name) (items : List ItemTree) (array base statement : ℕ
       → IsTrue (owns m p index) ↔ Owns names items array p index
 
   -- the mapping that is made of them is that of the array
-  pub shapes_mapping : (m : PlainMapping) → IsMapped shape root arrangement images m → IsMappingOf names items array base statement m
-  shapes_mapping m is =
+  pub shapes_mapping : (shadow : List Width) → IsShadow names items array (length shape) shadow → (m : PlainMapping) → IsMapped shape root dealt images shadow m
+      → IsMappingOf names items array base statement m
+  shapes_mapping shadow shaded m is =
       let l = can.landing in
-      let d = can.distributed in
-      let sizes = map extent arrangement in
+      let sizes = map extent dealt.target in
       let long : length m.bounds ≡ length shape = ap length is.bounds ∙ length-map shape run_of in
-      let many : length root ≡ length sizes = over ∙ sym (length-map arrangement extent) in
       let first : l.shape ≡ shape = same_some (shape_at names items array) l.shape shape l.has_shape have.has_shape in
-      let cuts = even_cuts d.formats root sizes images m.dims is.dims d.built rank many in
       record {
         bounds = ap (option_map (map run_of)) have.has_shape ∙ ap Some (sym is.bounds);
-        shadow = is.shadow ∙ ap (λ n. replicate n no_width) (sym long);
+        shadow = ap (shadow_at names items array) long ∙ shaded.is ∙ ap Some (sym is.widths);
         procs = is.procs ∙ sym sizes_are;
-        owners = λ p index below lies. subst (OwnersAre m) (even_images root sizes images m.dims is.dims images_are.size)
-            (λ landing q i under within. owners_are names items array base statement q root sizes d.distributees d.formats d.onto m.dims m i landing d.said have.has_root sizes_are cuts refl is.procs
+        owners = λ p index below lies. subst (OwnersAre m) (cut_images dealt root images m.dims cut is.dims images_are.size)
+            (λ landing q i under within. owners_are names items array base statement q root sizes dealt images m.dims m i landing have.has_dealing have.has_root sizes_are is.dims cut.rank refl is.procs
             (subst (λ (ns : List ℕ). q < product ns) is.procs under) within)
             l p index below (subst (λ s. LiesIn (map run_of s) index) (sym first) (subst (λ bs. LiesIn bs index) is.bounds lies));
       }

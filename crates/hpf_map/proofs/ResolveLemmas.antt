@@ -25,7 +25,6 @@ use Rattle.hpf_map.specs.declared.way.Way.TheVariants.{Unmapped, Distributed, Al
 use Rattle.hpf_lex.specs.declared.refusal.MapRefusal.{MapRefusal}
 use Rattle.hpf_map.specs.Found.{least_with}
 use Rattle.hpf_map.specs.Known.{is_named, known}
-use Rattle.hpf_map.specs.Built.{are_built}
 use Rattle.hpf_map.specs.Direct.{direct_images}
 use Rattle.hpf_map.specs.Landings.{IsSettled, AreClear, AreLandings, Lands, Here, Onward}
 use Rattle.hpf_map.specs.Layers.{names_of}
@@ -41,12 +40,13 @@ use Rattle.hpf_map.specs.Uses.{suits}
 use Rattle.hpf_map.specs.Ways.{used_place, place_of, uses_in, ways_after, is_unmapped, ways_of, way_at, leads_on, step_from, step, walk, walk_end}
 use Rattle.hpf_map.proofs.IndexLemmas.{IsFirstAt, first_at}
 use Rattle.hpf_map.proofs.DirectLemmas.{direct_said}
+use Rattle.hpf_map.proofs.DistributedLemmas.{distributed_is}
 use Rattle.hpf_map.proofs.EmptyLemmas.{others_empty, least_none}
 use Rattle.hpf_map.proofs.FreeLemmas.{names_free}
 use Rattle.hpf_map.proofs.LandingLemmas.{walk_stays, lands_are}
 use Rattle.hpf_map.proofs.SoundLemmas.{names_of_sound}
 use Rattle.hpf_map.proofs.WalkLemmas.{walk-iterate, iterate-add}
-use Rattle.hpf_map.proofs.UnbrokenLemmas.{all_none, clear, ends, line_is, distributed_is, IsUsed, used_is, used_placed, placed, fit_is, got, nobody}
+use Rattle.hpf_map.proofs.UnbrokenLemmas.{all_none, clear, ends, line_is, IsUsed, used_is, used_placed, placed, fit_is, got, nobody}
 
 -- ---- one array
 
@@ -242,11 +242,11 @@ lands_end names ways direct ends n base statement images (Onward n' k b base' st
     let stop : leads_on (way_at ways (walk ways (length ways) n)) ≡ false = ends n in
     one_more ways (length ways) n b (ap (step_from n) way) stop ∙ lands_end names ways direct ends b base statement second lands
 
-pub can_map_all : (need : Need) (items : List ItemTree) (landings : List (Option Landing)) → all_breaches need items ≡ [] → are_built items ≡ true
+pub can_map_all : (need : Need) (items : List ItemTree) (landings : List (Option Landing)) → all_breaches need items ≡ []
     → AreLandings (names_of items) (ways_of (names_of items) items) (direct_images (names_of items) items (ways_of (names_of items) items)) landings
     → ((n k : ℕ) → n < length (names_of items) → way_at (ways_of (names_of items) items) (walk_end (ways_of (names_of items) items) n) ≡ Distributed k → IsSettled landings n)
     → CanMapAll items landings
-can_map_all need items landings nothing built lands settled =
+can_map_all need items landings nothing lands settled =
     let none = all_none need items nothing in
     let free = names_free items none.layers in
     let is_clear = clear need items none free in
@@ -255,18 +255,18 @@ can_map_all need items landings nothing built lands settled =
       landing = λ n l is. lands_are (names_of items) items (direct_images (names_of items) items (ways_of (names_of items) items)) is_clear (direct_said (names_of items) items) n l.base l.statement l.images (lands n l is);
       base = λ n l is. sym (lands_end (names_of items) (ways_of (names_of items) items) (direct_images (names_of items) items (ways_of (names_of items) items)) (ends need items none free) n l.base l.statement l.images (lands n l is));
       settled = settled;
-      distributed = distributed_is need items none free built;
+      distributed = distributed_is need items none free;
     }
 
 -- the same by what the code has found
 pub can_map_by : (need : Need) (items : List ItemTree) (found : List Name) (went : List Way) (direct : List (Option (List Image))) (landings : List (Option Landing))
-    → found ≡ names_of items → went ≡ ways_of (names_of items) items → direct ≡ direct_images found items went → all_breaches need items ≡ [] → are_built items ≡ true
+    → found ≡ names_of items → went ≡ ways_of (names_of items) items → direct ≡ direct_images found items went → all_breaches need items ≡ []
     → AreLandings found went direct landings → ((n k : ℕ) → n < length found → way_at went (walk_end went n) ≡ Distributed k → IsSettled landings n) → CanMapAll items landings
-can_map_by need items found went direct landings names_are ways_are direct_are nothing built lands settled =
+can_map_by need items found went direct landings names_are ways_are direct_are nothing lands settled =
     let all = names_of items in
     let w = ways_of all items in
     let d : direct ≡ direct_images all items w = direct_are ∙ ap (λ x. direct_images x items went) names_are ∙ ap (direct_images all items) ways_are in
-    can_map_all need items landings nothing built
+    can_map_all need items landings nothing
     (subst (λ x. AreLandings all w x landings) d (subst (λ x. AreLandings all x direct landings) ways_are (subst (λ x. AreLandings x went direct landings) names_are lands)))
     (subst (λ x. (n k : ℕ) → n < length all → way_at x (walk_end x n) ≡ Distributed k → IsSettled landings n) ways_are
     (subst (λ x. (n k : ℕ) → n < length x → way_at went (walk_end went n) ≡ Distributed k → IsSettled landings n) names_are settled))

@@ -14,7 +14,8 @@ use Rattle.hpf_map.specs.Gathered.{all_of}
 use Rattle.hpf_map.specs.Shapes.{span, bound_breaches, shape, shape_breaches}
 use Rattle.hpf_map.specs.Constants.{value_breaches}
 use Rattle.hpf_map.specs.Declarations.{naming_breaches, shaped_name, declared_dimensions, with_declared, declared_breaches, has_wrong_rank, constant_name, with_constant, constant_breaches, names_after, declaration_breaches}
-use Rattle.hpf_map.specs.Expressions.{format_breaches, width_breaches, operation_breaches, align_expression_breaches, directive_breaches}
+use Rattle.hpf_map.specs.Expressions.{format_breaches, operation_breaches, align_expression_breaches, directive_breaches}
+use Rattle.hpf_map.specs.ShadowWidths.{width_breaches}
 use Rattle.hpf_map.specs.Subscripts.{subscripts_of}
 use Rattle.hpf_map.specs.Found.{least_with}
 

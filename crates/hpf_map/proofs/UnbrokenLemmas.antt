@@ -1,7 +1,7 @@
 -- What holds of names and of the ways in which they are mapped, where a text has no breach.
 use Rattle.std.proofs.Common.{◌≡◌, ◌==◌, ℕ, zero, suc, ◌+◌, ◌-◌, ◌<◌, Bool, true, false, cond, not, ◌&&◌, ◌||◌, List, [], ◌∷◌, length, map, get_or, All, Option, Some, None, refl, sym, ap, subst, ◌∙◌, arith}
 use Rattle.std.specs.Prelude.{Contains, slice_get, option_and_then, is_some, IfSome}
-use Rattle.std.specs.List.{flat_map, list_any, list_all, find, position_from, range_with_len}
+use Rattle.std.specs.List.{flat_map, list_any, find, position_from, range_with_len}
 use Rattle.std.proofs.lemmas.Bool.{false≢true, eqb-true}
 use Rattle.std.proofs.lemmas.List.Elements.{All-head, All-tail}
 use Rattle.hpf_lex.specs.declared.refusal.MapRefusal.{MapRefusal}
@@ -26,8 +26,8 @@ use Rattle.hpf_map.specs.Alignments.{align_breaches, alignee_breaches, images_be
 use Rattle.hpf_map.specs.Composed.{AreAligned}
 use Rattle.hpf_map.specs.Constraint.{breach_if}
 use Rattle.hpf_map.specs.Direct.{images_along, direct_images}
-use Rattle.hpf_map.specs.Built.{is_built, are_built}
-use Rattle.hpf_map.specs.Distributions.{divided, is_arrangement, fits_meaning, fits, is_broken, count_differs, target, free_shape, target_shape, nothing_fits, first_breach, target_breaches, distributee_breaches, distribute_breaches}
+use Rattle.hpf_map.specs.Dealing.{formats_breaches}
+use Rattle.hpf_map.specs.Distributions.{divided, is_arrangement, fits_meaning, fits, is_broken, count_differs, target, free_shape, target_shape, nothing_fits, first_breach, target_breaches, distribute_breaches}
 use Rattle.hpf_map.specs.Known.{is_named, known}
 use Rattle.hpf_map.specs.Landings.{name_shape, AlignedAt, AreClear}
 use Rattle.hpf_map.specs.Layers.{names_of, breaches_in}
@@ -35,11 +35,12 @@ use Rattle.hpf_map.specs.Ownership.{images_by}
 use Rattle.hpf_map.specs.Paired.{each_with, at_place}
 use Rattle.hpf_map.specs.Pipeline.{line_of, lines, base_breaches, pipeline_breaches}
 use Rattle.hpf_map.specs.Refusal.{all_breaches}
-use Rattle.hpf_map.specs.Mapped.{IsDistributed}
+use Rattle.hpf_map.specs.Shadows.{shadows_breaches}
 use Rattle.hpf_map.specs.Sound.{AreSoundNames, AreGood, IsSoundShape, IsSoundMeaning}
 use Rattle.hpf_map.specs.Spaces.{meaning_shape, fit, used_as, shape_of}
 use Rattle.hpf_map.specs.Subscripts.{all_subscripts}
 use Rattle.hpf_map.specs.Uses.{suits, use_breaches, onto_breaches, item_use_breaches}
+use Rattle.hpf_map.specs.Widths.{all_widths}
 use Rattle.hpf_map.specs.Ways.{used_place, place_of, ways_of, way_at, is_unmapped, leads_on, walk_end, is_on_cycle, cycle_breaches, first_uses, has_unmapped_base}
 use Rattle.hpf_map.proofs.ChoiceLemmas.{contains_here, contains_later, contains_none, contains_only, contains_from_flat_map}
 use Rattle.hpf_map.proofs.CycleLemmas.{end_on_cycle}
@@ -49,7 +50,7 @@ use Rattle.hpf_map.specs.Fit.{IsWhole, IsFree}
 use Rattle.hpf_map.proofs.IndexLemmas.{IsFirstAt, first_at, none_at}
 use Rattle.hpf_map.proofs.ClearLemmas.{images_clear}
 use Rattle.hpf_map.proofs.FitLemmas.{said_fit}
-use Rattle.hpf_map.proofs.SoundLemmas.{place_good, names_of_sound, first_true, second_true}
+use Rattle.hpf_map.proofs.SoundLemmas.{place_good, names_of_sound}
 use Rattle.hpf_map.proofs.WalkLemmas.{walk-iterate}
 
 -- ---- the breaches of a text, layer by layer
@@ -59,8 +60,10 @@ pub record AreNone (need : Need) (items : List ItemTree) : Type 0 where
   pub uses : flat_map (item_use_breaches (names_of items)) items ≡ []
   pub aligns : each_with (align_breaches (names_of items)) items (all_subscripts items) ≡ []
   pub distributes : flat_map (distribute_breaches (names_of items)) items ≡ []
+  pub formats : each_with (formats_breaches (names_of items)) items (all_widths items) ≡ []
   pub cycles : flat_map (cycle_breaches (ways_of (names_of items) items)) (first_uses (names_of items) items) ≡ []
   pub pipeline : pipeline_breaches need (names_of items) items ≡ []
+  pub shadows : shadows_breaches (names_of items) items ≡ []
 
 uses_none : (items : List ItemTree) → breaches_in items ≡ [] → flat_map (item_use_breaches (names_of items)) items ≡ []
 unfolding breaches_in
@@ -69,16 +72,20 @@ uses_none items h = others_empty _ _ h
 pub all_none : (need : Need) (items : List ItemTree) → all_breaches need items ≡ [] → AreNone need items
 unfolding all_breaches
 all_none need items h =
-    let e = first_empty _ _ h in
-    let d = first_empty _ _ (first_empty _ _ e) in
+    let g = first_empty _ _ h in
+    let e = first_empty _ _ g in
+    let f = first_empty _ _ (first_empty _ _ e) in
+    let d = first_empty _ _ f in
     let b = first_empty _ _ d in
     record {
       layers = first_empty _ _ b;
       uses = uses_none items (first_empty _ _ b);
       aligns = others_empty _ _ b;
       distributes = others_empty _ _ d;
+      formats = others_empty _ _ f;
       cycles = others_empty _ _ e;
-      pipeline = others_empty _ _ h;
+      pipeline = others_empty _ _ g;
+      shadows = others_empty _ _ h;
     }
 
 -- ---- names
@@ -142,7 +149,7 @@ unfolding used_place
 placed names asked word n y used place = rw used place
 
 -- its shape
-same_shape : (names : List Name) (asked : Role) (word : List ℕ) (n : ℕ) (u : IsUsed names asked word n) → shape_of names asked word ≡ name_shape names n
+pub same_shape : (names : List Name) (asked : Role) (word : List ℕ) (n : ℕ) (u : IsUsed names asked word n) → shape_of names asked word ≡ name_shape names n
 same_shape names asked word n u = rw (u.used, u.there) refl
 
 -- a name that stands for an array, a template or an arrangement
@@ -171,7 +178,7 @@ target_shaped (meaning.Shaped what dimensions) h w = is_there dimensions.shape w
 target_shaped (meaning.Constant v) h w = absurd (false≢true h)
 target_shaped (meaning.List vs) h w = absurd (false≢true h)
 
-free_at : (names : List Name) (asked : Role) (word : List ℕ) (n : ℕ) → All IsFree names → (u : IsUsed names asked word n) → IsFree u.name
+pub free_at : (names : List Name) (asked : Role) (word : List ℕ) (n : ℕ) → All IsFree names → (u : IsUsed names asked word n) → IsFree u.name
 free_at names asked word n free u =
     let at : Some (get_or names n u.name) ≡ Some u.name = sym (got names n u.name u.below) ∙ u.there in
     subst IsFree (let same : get_or names n u.name ≡ u.name = cc in same) (free n u.name u.below)
@@ -219,7 +226,7 @@ good names n spans sound has = subst (λ o. IfSome o AreGood) has (place_good na
 shape_there : (names : List Name) (n : ℕ) (x : Name) → slice_get names n ≡ Some x → name_shape names n ≡ meaning_shape x.meaning
 shape_there names n x there = rw there refl
 
-contains_get : {A : Type 0} (xs : List A) (k : ℕ) (x : A) → slice_get xs k ≡ Some x → Contains xs x
+pub contains_get : {A : Type 0} (xs : List A) (k : ℕ) (x : A) → slice_get xs k ≡ Some x → Contains xs x
 contains_get [] k x is = absurd (let no : None ≡ Some x = is in cc)
 contains_get (y ∷ xs) zero x is = subst (Contains (y ∷ xs)) (let same : y ≡ x = cc in same) (contains_here y xs)
 contains_get (y ∷ xs) (suc k) x is = contains_later y xs x (contains_get xs k x is)
@@ -244,11 +251,6 @@ by_parts : (names : List Name) (items : List ItemTree) (k n b : ℕ) (alignees :
     → images_between sources subs (Some said) (Some array) (Some space) ≡ Some (Some images) → images_by names items k n b ≡ Some images
 unfolding images_by
 by_parts names items k n b alignees sources base subs said array space images item there has_array has_space are = rw (item, there, has_array, has_space, are) refl
-
-all_at : {A : Type 0} (p : A → Bool) (xs : List A) (k : ℕ) (x : A) → list_all p xs ≡ true → slice_get xs k ≡ Some x → p x ≡ true
-all_at p [] k x h is = absurd (let no : None ≡ Some x = is in cc)
-all_at p (y ∷ xs) zero x h is = ap p (let same : x ≡ y = cc in same) ∙ first_true (p y) (list_all p xs) h
-all_at p (y ∷ xs) (suc k) x h is = all_at p xs k x (second_true (p y) (list_all p xs) h) is
 
 contained : {A : Type 0} (P : A → Type 0) (xs : List A) (x : A) → All P xs → Contains xs x → P x
 contained P xs x all has = subst P has.2 (all has.0 x has.1)
@@ -284,10 +286,10 @@ none_broken count (n ∷ names) free =
     rw (whole_arrangement n.meaning n.free here.free here.whole) (ap (λ b. fits count n || b) (none_broken count names (All-tail IsFree n names free)))
 
 -- an arrangement of so many dimensions
-record IsTarget (count : ℕ) (o : Option (List Span)) : Type 0 where
-  target : List Span
-  has : o ≡ Some target
-  over : count ≡ length target
+pub record IsTarget (count : ℕ) (o : Option (List Span)) : Type 0 where
+  pub target : List Span
+  pub has : o ≡ Some target
+  pub over : count ≡ length target
 
 fitting_shape : (count : ℕ) (m : Meaning) → fits_meaning count m ≡ true → IsWhole m → IsSoundMeaning m → IsTarget count (meaning_shape m)
 fitting_shape count meaning.Scalar h w s = absurd (false≢true h)
@@ -303,7 +305,7 @@ fitting_shape count (meaning.List vs) h w s = absurd (false≢true h)
 freely : (names : List Name) (x : Name) → IsFree x → free_shape names x ≡ meaning_shape x.meaning
 freely names x free = rw free.free refl
 
-counted : (count : ℕ) (spot : Spot) (o : Option (List Span)) (spans : List Span) → o ≡ Some spans → count_differs count spot o ≡ [] → count ≡ length spans
+pub counted : (count : ℕ) (spot : Spot) (o : Option (List Span)) (spans : List Span) → o ≡ Some spans → count_differs count spot o ≡ [] → count ≡ length spans
 counted count spot o spans is h =
     let none : breach_if (not (count == length spans)) Rank spot.at ≡ [] = subst (λ s. count_differs count spot s ≡ []) is h in
     eqb-true count (length spans) (turned (count == length spans) (breach_if_none _ _ spot.at none))
@@ -345,7 +347,7 @@ module _ (need : Need) (items : List ItemTree) (none : AreNone need items) (free
         absurd (false≢true (sym (breach_if_none (is_on_cycle ways first.used.name) _ first.used.at told) ∙ ap (is_on_cycle ways) first.name ∙ on))
 
   -- an item has no breach in its uses of names
-  uses_free : (k : ℕ) (item : ItemTree) → slice_get items k ≡ Some item → item_use_breaches names item ≡ []
+  pub uses_free : (k : ℕ) (item : ItemTree) → slice_get items k ≡ Some item → item_use_breaches names item ≡ []
   uses_free k item said = each_empty (item_use_breaches names) items none.uses item (contains_get items k item said)
 
   -- a base of which a way tells nothing would have a breach
@@ -453,7 +455,7 @@ module _ (need : Need) (items : List ItemTree) (none : AreNone need items) (free
       (s.0, shape_there names n u.name u.there ∙ s.1)
 
   -- the arrangement onto which a statement distributes
-  target_is : (distributees : List Spot) (formats : List FormatTree) (onto : Option Spot) (spot : Spot) → Contains distributees spot
+  pub target_is : (distributees : List Spot) (formats : List FormatTree) (onto : Option Spot) (spot : Spot) → Contains distributees spot
       → target_breaches names distributees formats onto ≡ [] → onto_breaches names onto ≡ [] → IsTarget (divided formats) (target_shape names formats onto)
   unfolding target_breaches target
   target_is distributees formats (Some o) spot has told used =
@@ -482,29 +484,6 @@ module _ (need : Need) (items : List ItemTree) (none : AreNone need items) (free
       turned : (b : Bool) → not b ≡ false → b ≡ true
       turned true h = refl
       turned false h = sym h
-
-  pub distributed_is : are_built items ≡ true → (base k : ℕ) → way_at ways base ≡ Distributed k → IsDistributed names items base k
-  unfolding distribute_breaches
-  distributed_is built base k is =
-      let d : IsDistributee names items base k = says names items base (Distributed k) is refl in
-      let root = distributed_shape base k is in
-      let u = used_is names role.Mapped d.spot.word base d.name in
-      let told = each_empty (distribute_breaches names) items none.distributes _ (contains_get items k _ d.said) in
-      let own = each_empty (distributee_breaches names (length d.formats)) d.distributees (first_empty _ _ told) d.spot d.stands in
-      let target = target_is d.distributees d.formats d.onto d.spot d.stands (others_empty _ _ told) (others_empty _ _ (uses_free k _ d.said)) in
-      record {
-        distributees = d.distributees;
-        formats = d.formats;
-        onto = d.onto;
-        root = root.0;
-        target = target.target;
-        said = d.said;
-        built = all_at is_built items k _ built d.said;
-        has_root = root.1;
-        rank = counted (length d.formats) d.spot (shape_of names role.Mapped d.spot.word) root.0 (same_shape names role.Mapped d.spot.word base u ∙ root.1) own;
-        has_target = target.has;
-        over = target.over;
-      }
 
   pub clear : AreClear names ways (direct_images names items ways)
   clear = record {

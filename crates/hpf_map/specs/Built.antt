@@ -2,15 +2,7 @@
 use Rattle.std.specs.Prelude.{List, Bool, true, false, ◌&&◌, is_none}
 use Rattle.std.specs.List.{list_all}
 use Rattle.hpf_lex.specs.declared.refusal.MapRefusal.{MapRefusal}
-use Rattle.hpf_syntax.specs.Plain.{FormatTree, Star, Block, Cyclic, GenBlock, Indirect, OpTree, Plain, Add, Mul, Prefix, Stencil, ItemTree, ImplicitNone, Variables, Constants, Processors, Template, Distribute, Align, Shadow, Input, Stage}
-
--- BLOCK without a width
-abbrev pub is_built_format : FormatTree → Bool
-is_built_format (Block at width) = is_none width
-is_built_format (Star at) = false
-is_built_format (Cyclic at width) = false
-is_built_format (GenBlock at lengths) = false
-is_built_format (Indirect at places) = false
+use Rattle.hpf_syntax.specs.Plain.{OpTree, Plain, Add, Mul, Prefix, Stencil, ItemTree, ImplicitNone, Variables, Constants, Processors, Template, Distribute, Align, Shadow, Input, Stage}
 
 abbrev pub is_plain : OpTree → Bool
 is_plain Plain = true
@@ -19,16 +11,16 @@ is_plain (Mul at e) = false
 is_plain (Prefix at e) = false
 is_plain (Stencil at e weights) = false
 
--- neither another format, nor a shadow, a stage, buffers or an operation
+-- neither a stage, buffers nor an operation
 abbrev pub is_built : ItemTree → Bool
 is_built (ImplicitNone at) = true
 is_built (Variables common names) = true
 is_built (Constants common names) = true
 is_built (Processors names) = true
 is_built (Template names) = true
-is_built (Distribute names formats onto) = list_all is_built_format formats
+is_built (Distribute names formats onto) = true
 is_built (Align names sources base subs) = true
-is_built (Shadow names widths) = false
+is_built (Shadow names widths) = true
 is_built (Input at name buffers op) = is_none buffers && is_plain op
 is_built (Stage at name permute buffers op) = false
 

@@ -3,8 +3,9 @@ use Rattle.std.specs.Prelude.{ℕ, Bool, List, [], ◌++◌, Option, Some, None}
 use Rattle.std.specs.List.{flat_map}
 use Rattle.hpf_lex.specs.declared.refusal.MapRefusal.{MapRefusal}
 use Rattle.hpf_syntax.specs.declared.tree.SourceItem.{SourceItem}
-use Rattle.hpf_syntax.specs.Plain.{Tree, FormatTree, Block, Cyclic, SubTree, WidthTree, OpTree, Plain, Add, Mul, Prefix, Stencil, ItemTree, Distribute, Align, Shadow, Input, Stage}
+use Rattle.hpf_syntax.specs.Plain.{Tree, FormatTree, Block, Cyclic, SubTree, OpTree, Plain, Add, Mul, Prefix, Stencil, ItemTree, Distribute, Align, Shadow, Input, Stage}
 use Rattle.hpf_map.specs.declared.name.Name.{Name}
+use Rattle.hpf_map.specs.ShadowWidths.{width_breaches}
 use Rattle.hpf_map.specs.Subscripts.{dummy_breaches, forms_breaches}
 use Rattle.hpf_map.specs.Uses.{subscript_breaches, dummies}
 use Rattle.hpf_map.specs.Values.{expression_breaches, maybe_expression_breaches}
@@ -15,10 +16,6 @@ module _ (before : List Name) where
   format_breaches (Block at width) = maybe_expression_breaches before width
   format_breaches (Cyclic at width) = maybe_expression_breaches before width
   format_breaches format = []
-
-  -- the widths of a shadow
-  unfoldable pub width_breaches : WidthTree → List MapRefusal
-  width_breaches w = expression_breaches before w.low ++ maybe_expression_breaches before w.high
 
   -- the entries of PERMUTE
   abbrev pub list_breaches : Option (List Tree) → List MapRefusal
@@ -47,7 +44,7 @@ module _ (before : List Name) where
   unfoldable pub directive_breaches : ItemTree → List MapRefusal
   directive_breaches (Distribute names formats onto) = flat_map format_breaches formats
   directive_breaches (Align names sources base subs) = align_expression_breaches (dummies sources) sources subs
-  directive_breaches (Shadow names widths) = flat_map width_breaches widths
+  directive_breaches (Shadow names widths) = flat_map (width_breaches before) widths
   directive_breaches (Input at name buffers op) = maybe_expression_breaches before buffers ++ operation_breaches op
   directive_breaches (Stage at name permute buffers op) =
       list_breaches permute ++ maybe_expression_breaches before buffers ++ operation_breaches op

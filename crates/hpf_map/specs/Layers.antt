@@ -1,4 +1,4 @@
--- What a text declares, and which of its names, values, shapes and lists break a constraint.
+-- What a text declares, and which of its names, values, shapes, lists and widths break a constraint.
 use Rattle.std.specs.Prelude.{◌≡◌, List, [], ◌++◌, Option, Some, None, Result, Ok, Err, fold}
 use Rattle.std.specs.List.{flat_map}
 use Rattle.hpf_lex.specs.declared.refusal.MapRefusal.{MapRefusal}
@@ -19,7 +19,7 @@ names_of items = fold names_after [] items
 unfoldable pub ordered_breaches : List Name → ItemTree → List MapRefusal
 ordered_breaches before item = directive_breaches before item ++ declaration_breaches before item
 
--- all breaches in names, values, shapes and lists
+-- all breaches in names, values, shapes, lists and widths
 unfoldable pub breaches_in : List ItemTree → List MapRefusal
 breaches_in items = threaded names_after ordered_breaches [] items ++ flat_map (item_use_breaches (names_of items)) items
 

@@ -5,6 +5,7 @@ pub mod Index
 pub mod Hidden
 pub mod Uses
 pub mod Values
+pub mod Ranges
 pub mod Gathered
 pub mod Paired
 pub mod Shapes
@@ -14,10 +15,16 @@ pub mod Linear
 pub mod Dummies
 pub mod Subscripts
 pub mod Expressions
+pub mod ShadowWidths
 pub mod Spaces
 pub mod Alignments
 pub mod Distributions
+pub mod Widths
+pub mod Formats
+pub mod Dealing
+pub mod Seen
 pub mod Ways
+pub mod Shadows
 pub mod Ends
 pub mod Places
 pub mod Pipeline
@@ -26,6 +33,7 @@ pub mod Composed
 pub mod Sound
 pub mod Fit
 pub mod Ownership
+pub mod Shaded
 pub mod Landings
 pub mod Direct
 pub mod Cuts

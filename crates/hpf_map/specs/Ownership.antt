@@ -1,28 +1,30 @@
 -- Who owns the elements of an array, one directive at a time (High Performance Fortran 2.0, Data Mapping, ALIGN and
 -- DISTRIBUTE). A name is its place among the declared ones, from 0, and a statement its place in the text, from 0.
-use Rattle.std.specs.Prelude.{ℕ, ◌≡◌, ◌<◌, List, [], ◌∷◌, map, Bool, true, false, ◌&&◌, ◌==◌, Option, Some, None, option_and_then, option_map, replicate, length, slice_get, Contains, IsTrue, ◌↔◌, ℤ}
+use Rattle.std.specs.Prelude.{ℕ, ◌≡◌, ◌<◌, List, [], ◌∷◌, map, Bool, true, false, ◌==◌, Option, Some, None, option_and_then, option_map, length, slice_get, slice_index_or, Contains, IsTrue, ◌↔◌, ℤ, pos}
+use Rattle.std.specs.List.{list_all, range_with_len}
 use Rattle.hpf_dist.specs.Axis.{before}
-use Rattle.hpf_dist.specs.Owner.{own, even_block}
+use Rattle.hpf_dist.specs.Owner.{own}
 use Rattle.hpf_dist.specs.declared.format.Format.{Format}
 use Rattle.hpf_own.specs.Image.{positions}
-use Rattle.hpf_own.specs.KeptLists.{no_width}
 use Rattle.hpf_own.specs.Mapping.{PlainMapping}
 use Rattle.hpf_own.specs.Owners as mapping
 use Rattle.hpf_own.specs.Owners.{coordinates}
 use Rattle.hpf_own.specs.Space.{choices, product, LiesIn}
 use Rattle.hpf_own.specs.declared.image.Image.{Image}
-use Rattle.hpf_syntax.specs.Plain.{FormatTree, Star, Block, ItemTree, Align, Distribute}
+use Rattle.hpf_syntax.specs.Plain.{ItemTree, Align, Distribute}
 use Rattle.hpf_map.specs.declared.name.Name.{Name}
 use Rattle.hpf_map.specs.declared.name.Span.{Span}
 use Rattle.hpf_map.specs.declared.subscript.Subscript.{Subscript}
 use Rattle.hpf_map.specs.declared.way.Way.TheVariants.{Distributed, Aligned}
-use Rattle.hpf_map.specs.Alignments.{images_between}
-use Rattle.hpf_map.specs.Distributions.{target_shape}
+use Rattle.hpf_map.specs.Alignments.{images_between, no_span}
+use Rattle.hpf_map.specs.Dealing.{Dealt, dealing, over, target_at, format_at}
 use Rattle.hpf_map.specs.Paired.{inner, at_place}
+use Rattle.hpf_map.specs.Shadows.{shadow_at}
 use Rattle.hpf_map.specs.Shapes.{extent}
 use Rattle.hpf_map.specs.Spaces.{run_of, meaning_shape}
 use Rattle.hpf_map.specs.Subscripts.{all_subscripts}
 use Rattle.hpf_map.specs.Ways.{ways_of, way_at}
+use Rattle.hpf_map.specs.Widths.{all_widths}
 
 module _ (names : List Name) (items : List ItemTree) where
   -- the shape of a name, where it is free
@@ -54,42 +56,48 @@ pub data LiesAt (names : List Name) (items : List ItemTree) : (array : ℕ) (ind
 
 -- ---- from position to processor
 
--- the format of a dimension of this extent that is divided over so many processors
-abbrev pub format_of : FormatTree → ℕ → ℕ → Option Format
-format_of (Block at None) extent n = Some (even_block extent n)
-format_of other extent n = None
-
-abbrev pub is_owner : Option Format → ℕ → ℕ → ℕ → Bool
-is_owner None n x c = false
+-- whether a coordinate owns the position with so many before it; a dimension that isn't divided is no matter
+abbrev pub is_owner : Option Format → (procs before coordinate : ℕ) → Bool
+is_owner None n x c = true
 is_owner (Some format) n x c = own format n x == c
 
--- Whether a position is owned at these coordinates: in each dimension that is divided, in order, the coordinate owns it.
-unfoldable pub owned_at : List FormatTree → List Span → (sizes coordinates : List ℕ) → List ℤ → Bool
-owned_at [] spans sizes at position = true
-owned_at (Star star ∷ formats) (s ∷ spans) sizes at (u ∷ position) = owned_at formats spans sizes at position
-owned_at (format ∷ formats) (s ∷ spans) (n ∷ sizes) (c ∷ at) (u ∷ position) =
-    is_owner (format_of format (extent s) n) n (before s.low u) c && owned_at formats spans sizes at position
-owned_at (format ∷ formats) spans sizes at position = false
+module _ (dealt : Dealt) (spans : List Span) (at : List ℕ) (position : List ℤ) where
+  -- whether a position is owned at these coordinates in a dimension, by the one along the dimension of the arrangement that
+  -- its format takes
+  abbrev pub is_owned_in : ℕ → Bool
+  is_owned_in k =
+      let s : Span = slice_index_or spans k no_span in
+      is_owner (format_at dealt spans k) (extent (target_at dealt spans k)) (before s.low (slice_index_or position k (pos 0)))
+      (slice_index_or at (over dealt.formats k) 0)
+
+  -- in each dimension
+  unfoldable pub owned_at : Bool
+  owned_at = list_all is_owned_in (range_with_len 0 (length dealt.formats))
+
+-- the formats of a statement, if it distributes
+abbrev pub dealing_of : List Name → Option ItemTree → Option (List (Option ℤ)) → Option Dealt
+dealing_of names (Some (Distribute distributees formats onto)) widths = Some (dealing names formats onto widths)
+dealing_of names other widths = None
 
 module _ (names : List Name) (items : List ItemTree) where
-  abbrev pub sizes_of : Option (List Span) → List ℕ
+  -- the formats of the statement at a place
+  unfoldable pub dealing_by : ℕ → Option Dealt
+  dealing_by k = dealing_of names (slice_get items k) (at_place k (all_widths items))
+
+  abbrev pub sizes_of : Option Dealt → List ℕ
   sizes_of None = []
-  sizes_of (Some spans) = map extent spans
+  sizes_of (Some dealt) = map extent dealt.target
 
   -- the extents of the arrangement onto which a statement distributes
   unfoldable pub sizes_by : ℕ → List ℕ
-  sizes_by k = sizes (slice_get items k) where
-    sizes : Option ItemTree → List ℕ
-    sizes (Some (Distribute distributees formats onto)) = sizes_of (target_shape names formats onto)
-    sizes other = []
+  sizes_by k = sizes_of (dealing_by k)
 
   -- whether a processor owns a position of a name that a statement distributes
   unfoldable pub owns_by : (statement name processor : ℕ) → List ℤ → Bool
-  owns_by k n p position = owns (slice_get items k) (shape_at names items n) where
-    owns : Option ItemTree → Option (List Span) → Bool
-    owns (Some (Distribute distributees formats onto)) (Some spans) =
-        owned_at formats spans (sizes_by k) (coordinates (sizes_by k) p) position
-    owns other spans = false
+  owns_by k n p position = owns (dealing_by k) (shape_at names items n) where
+    owns : Option Dealt → Option (List Span) → Bool
+    owns (Some dealt) (Some spans) = owned_at dealt spans (coordinates (sizes_by k) p) position
+    owns dealt spans = false
 
 -- A processor owns an element where it owns some position at which the element lies.
 pub record Owns (names : List Name) (items : List ItemTree) (array processor : ℕ) (index : List ℤ) : Type 0 where
@@ -100,11 +108,11 @@ pub record Owns (names : List Name) (items : List ItemTree) (array processor : �
   pub distributed : way_at (ways_of names items) base ≡ Distributed statement
   pub owned : owns_by names items statement base processor position ≡ true
 
--- A mapping is that of an array: its bounds, no shadow, the processors of the arrangement onto which its ultimate base is
--- distributed, and of each element the owners that the statements give.
+-- A mapping is that of an array: its bounds, the widths of its own SHADOW, the processors of the arrangement onto which its
+-- ultimate base is distributed, and of each element the owners that the statements give.
 pub record IsMappingOf (names : List Name) (items : List ItemTree) (array base statement : ℕ) (m : PlainMapping) : Type 0 where
   pub bounds : option_map (map run_of) (shape_at names items array) ≡ Some m.bounds
-  pub shadow : m.shadow ≡ replicate (length m.bounds) no_width
+  pub shadow : shadow_at names items array (length m.bounds) ≡ Some m.shadow
   pub procs : m.procs ≡ sizes_by names items statement
   pub owners : (p : ℕ) (index : List ℤ) → p < product m.procs → LiesIn m.bounds index
       → IsTrue (mapping.owns m p index) ↔ Owns names items array p index

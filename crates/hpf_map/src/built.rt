@@ -1,30 +1,10 @@
 //! The forms of statements that are built.
 
 ghost use Rattle.std.specs.Prelude.{◌≡◌, map};
-ghost use Rattle.std.specs.List.{list_all};
-ghost use Rattle.hpf_syntax.specs.Plain.{format_tree, item_tree};
-ghost use Rattle.hpf_map.specs.Built.{is_built_format, is_built, are_built};
+ghost use Rattle.hpf_syntax.specs.Plain.{item_tree};
+ghost use Rattle.hpf_map.specs.Built.{is_built, are_built};
 
-use hpf_syntax::{FormatItem, Item, OpItem};
-
-/// Whether a format is built: BLOCK without a width.
-fn is_built_format(format: &FormatItem) -> bool
-    ensures { result ≡ is_built_format (format_tree format.now) }
-{
-    matches!(format, FormatItem::Block(_, None))
-}
-
-/// Whether all formats are built.
-fn are_built_formats(formats: &[FormatItem]) -> bool
-    ensures { result ≡ list_all is_built_format (map format_tree formats.now) }
-{
-    for format in formats {
-        if !is_built_format(format) {
-            return false;
-        }
-    }
-    true
-}
+use hpf_syntax::{Item, OpItem};
 
 /// Whether a statement has a form that is built.
 fn is_built(item: &Item) -> bool
@@ -36,10 +16,11 @@ fn is_built(item: &Item) -> bool
         | Item::Constants { .. }
         | Item::Processors(_)
         | Item::Template(_)
-        | Item::Align { .. } => true,
-        Item::Distribute { formats, .. } => are_built_formats(formats.as_slice()),
+        | Item::Distribute { .. }
+        | Item::Align { .. }
+        | Item::Shadow { .. } => true,
         Item::Input { buffers, op, .. } => buffers.is_none() && matches!(op, OpItem::Plain),
-        Item::Shadow { .. } | Item::Stage { .. } => false,
+        Item::Stage { .. } => false,
     }
 }
 

@@ -1,30 +1,40 @@
 //! A mapping text that is checked, layer by layer.
 
-ghost use Rattle.std.specs.Prelude.{◌≡◌, map, IfOk, OnOk};
+ghost use Rattle.std.specs.BTreeMap.{get};
+ghost use Rattle.std.specs.Ordering.{nat_cmp};
+ghost use Rattle.std.specs.Prelude.{◌≡◌, ℕ, map, IfOk, OnOk};
 ghost use Rattle.hpf_syntax.specs.Plain.{item_tree};
 ghost use Rattle.hpf_map.specs.Found.{least_with};
 ghost use Rattle.hpf_map.specs.Layers.{names_of};
 ghost use Rattle.hpf_map.specs.Refusal.{all_breaches};
+ghost use Rattle.hpf_map.specs.Shadows.{first_shadow};
 ghost use Rattle.hpf_map.specs.Subscripts.{all_subscripts};
 ghost use Rattle.hpf_map.specs.Ways.{ways_of};
+ghost use Rattle.hpf_map.specs.ShadowWidths.{all_shadow_widths};
+ghost use Rattle.hpf_map.specs.Widths.{all_widths};
 
 use crate::alignments::test_aligns;
 use crate::breaches::Breaches;
 use crate::cycles::test_cycles;
+use crate::dealing::test_all_formats;
 use crate::distributions::test_distributes;
 use crate::pipeline::test_pipeline;
 use crate::program::Need;
+use crate::shadows::first_shadows;
 use crate::sound::sound_names;
 use crate::statements::{Statements, read_statements};
 use crate::ways::{Ways, read_ways};
 use hpf_syntax::Item;
 use std::alloc::{AllocError, Global};
+use std::collections::BTreeMap;
 
-/// What a text declares and what its subscripts say, and how its names are mapped.
+/// What a text declares, what its subscripts and widths say, how its names are mapped, and for each array with a shadow the
+/// statement with its first SHADOW.
 #[derive(Drop)]
 pub(crate) struct Checked {
     pub statements: Statements,
     pub ways: Ways,
+    pub first_shadows: BTreeMap<usize, usize>,
 }
 
 /// Checks statements layer by layer, and takes the breaches of all of them in.
@@ -37,7 +47,11 @@ pub(crate) fn check_items(
 ) -> Result<Checked, AllocError>
     ensures names { IfOk result (λ c. c.statements.names ≡ names_of (map item_tree items.now)) }
     ensures said { IfOk result (λ c. c.statements.said.items ≡ all_subscripts (map item_tree items.now)) }
+    ensures widths { IfOk result (λ c. c.statements.widths.items ≡ all_widths (map item_tree items.now)) }
     ensures ways { IfOk result (λ c. c.ways ≡ ways_of (names_of (map item_tree items.now)) (map item_tree items.now)) }
+    ensures shadow_widths { IfOk result (λ c. c.statements.shadows.items ≡ all_shadow_widths (map item_tree items.now)) }
+    ensures shadows { IfOk result (λ c. (n : ℕ) → get nat_cmp c.first_shadows n
+        ≡ first_shadow (names_of (map item_tree items.now)) (map item_tree items.now) n) }
     ensures breaches { OnOk result (breaches.new ≡ least_with breaches.old
         (all_breaches need (map item_tree items.now))) }
 {
@@ -51,6 +65,12 @@ pub(crate) fn check_items(
         breaches,
     )?;
     test_distributes(&statements.names, items, breaches);
+    test_all_formats(
+        &statements.names,
+        items,
+        statements.widths.as_slice(),
+        breaches,
+    );
     let mapped = read_ways(alloc, &statements.names, items, breaches)?;
     test_cycles(alloc, &mapped.ways, mapped.first.as_slice(), breaches)?;
     test_pipeline(
@@ -61,8 +81,10 @@ pub(crate) fn check_items(
         items,
         breaches,
     )?;
+    let first_shadows = first_shadows(alloc, &statements.names, items, breaches)?;
     Ok(Checked {
         statements,
         ways: mapped.ways,
+        first_shadows,
     })
 }

@@ -20,6 +20,20 @@ pub enum Constraint {
     Empty,
     /// A value, a number of bounds, of elements or of names, or an extent is too great.
     Limit,
+    /// The blocks of all processors together are shorter than the dimension.
+    BlockTooSmall,
+    /// A width is below 1.
+    WidthZero,
+    /// There isn't one length for each processor.
+    LengthCount,
+    /// A length is negative.
+    NegativeLength,
+    /// The lengths together are shorter than the dimension.
+    LengthSum,
+    /// There isn't one value for each position.
+    PlaceCount,
+    /// A value is no subscript of the arrangement.
+    PlaceValue,
     /// No arrangement has as many dimensions as a DISTRIBUTE without ONTO divides.
     NoArrangement,
     /// A name is mapped that an earlier directive maps.
@@ -34,6 +48,8 @@ pub enum Constraint {
     Outside,
     /// An alignee is aligned with itself, over others or at once.
     Cycle,
+    /// An array has a shadow that an earlier directive gives it, a template has one, or a width is negative.
+    Shadow,
     /// The lines of a pipeline don't go together.
     Pipeline,
 }
@@ -52,6 +68,13 @@ impl Constraint {
             Constraint::Rank => 24,
             Constraint::Empty => 25,
             Constraint::Limit => 26,
+            Constraint::BlockTooSmall => 27,
+            Constraint::WidthZero => 28,
+            Constraint::LengthCount => 29,
+            Constraint::NegativeLength => 30,
+            Constraint::LengthSum => 31,
+            Constraint::PlaceCount => 32,
+            Constraint::PlaceValue => 33,
             Constraint::NoArrangement => 34,
             Constraint::MappedTwice => 35,
             Constraint::DummyTwice => 36,
@@ -59,6 +82,7 @@ impl Constraint {
             Constraint::Unlike => 38,
             Constraint::Outside => 39,
             Constraint::Cycle => 40,
+            Constraint::Shadow => 41,
             Constraint::Pipeline => 42,
         }
     }

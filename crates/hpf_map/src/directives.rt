@@ -2,24 +2,28 @@
 
 ghost use Rattle.std.specs.Prelude.{◌≡◌, List, Some, map, option_map, IfOk, OnOk};
 ghost use Rattle.std.specs.List.{flat_map};
-ghost use Rattle.hpf_syntax.specs.Plain.{Tree, tree, FormatTree, format_tree, WidthTree, width_tree, op_tree, sub_tree, item_tree};
+ghost use Rattle.hpf_syntax.specs.Plain.{Tree, tree, op_tree, sub_tree, item_tree};
 ghost use Rattle.hpf_lex.specs.declared.refusal.MapRefusal.{MapRefusal};
 ghost use Rattle.hpf_map.specs.declared.name.Name.{Name};
-ghost use Rattle.hpf_map.specs.Expressions.{format_breaches, width_breaches, list_breaches, operation_breaches, subscript_name_breaches, align_expression_breaches, directive_breaches};
+ghost use Rattle.hpf_map.specs.Expressions.{list_breaches, operation_breaches, subscript_name_breaches, align_expression_breaches, directive_breaches};
 ghost use Rattle.hpf_map.specs.Found.{least_with};
 ghost use Rattle.hpf_map.specs.Hidden.{hides};
+ghost use Rattle.hpf_map.specs.ShadowWidths.{statement_shadow};
 ghost use Rattle.hpf_map.specs.Subscripts.{is_empty, dummy_breaches, subscripts_of, statement_subscripts};
 ghost use Rattle.hpf_map.specs.Uses.{dummies};
 ghost use Rattle.hpf_map.specs.Values.{expression_breaches, maybe_expression_breaches};
+ghost use Rattle.hpf_map.specs.Widths.{statement_widths};
 
 use crate::breaches::Breaches;
 use crate::dummies::dummies_of;
 use crate::dummy_places::test_dummies;
 use crate::expressions::{expression, test_subscripts};
+use crate::format_widths::{FormatWidths, read_widths};
 use crate::scope::Scope;
+use crate::shadow_widths::{ShadowWidths, read_shadow};
 use crate::subscripts::{Subscripts, said};
 use hpf_lex::Word;
-use hpf_syntax::{Expr, FormatItem, Item, List, OpItem, SourceItem, SubItem, WidthItem};
+use hpf_syntax::{Expr, Item, List, OpItem, SourceItem, SubItem};
 use std::alloc::{AllocError, Global};
 use std::collections::BTreeSet;
 
@@ -44,38 +48,6 @@ impl Part for Expr {
 
     fn test(&self, scope: &Scope, breaches: &mut Breaches) {
         let _ = expression(scope, self, breaches);
-    }
-}
-
-impl Part for FormatItem {
-    ghost Tree = { FormatTree };
-
-    ghost tree = { format_tree };
-
-    ghost found = { format_breaches };
-
-    #[tactic(auto, using(crate::proofs::FoundLemmas::least_with_laws), unfolding(crate::specs::Expressions::format_breaches))]
-    fn test(&self, scope: &Scope, breaches: &mut Breaches) {
-        match self {
-            FormatItem::Block(_, width) | FormatItem::Cyclic(_, width) => {
-                test_maybe(scope, width, breaches);
-            }
-            FormatItem::Star(_) | FormatItem::GenBlock(..) | FormatItem::Indirect(..) => {}
-        }
-    }
-}
-
-impl Part for WidthItem {
-    ghost Tree = { WidthTree };
-
-    ghost tree = { width_tree };
-
-    ghost found = { width_breaches };
-
-    #[tactic(auto, using(crate::proofs::FoundLemmas::least_with_laws), unfolding(crate::specs::Expressions::width_breaches))]
-    fn test(&self, scope: &Scope, breaches: &mut Breaches) {
-        self.low.test(scope, breaches);
-        test_maybe(scope, &self.high, breaches);
     }
 }
 
@@ -204,25 +176,53 @@ fn read_align(
     read_subscripts(alloc, scope, &dummies, sources, subs, breaches)
 }
 
-/// What the subscripts of a directive say, where they are free, and the breaches in the expressions of a directive or of
-/// a pipeline line.
+/// What the expressions of a directive say, where they are free.
+#[derive(Drop)]
+pub(crate) struct Said {
+    /// The subscripts of an ALIGN.
+    pub subscripts: Option<Subscripts>,
+    /// The widths in the formats of a DISTRIBUTE.
+    pub widths: Option<FormatWidths>,
+    /// The widths of a SHADOW.
+    pub shadow: Option<ShadowWidths>,
+}
+
+/// What the expressions of a directive say, and the breaches in those of a directive or of a pipeline line.
 #[tactic(auto, using(crate::proofs::FoundLemmas::least_with_laws), unfolding(crate::specs::Expressions::directive_breaches))]
 pub(crate) fn read_directive(
     alloc: Global,
     scope: &Scope,
     item: &Item,
     breaches: &mut Breaches,
-) -> Result<Option<Subscripts>, AllocError>
-    ensures said { IfOk result (λ s. s ≡ statement_subscripts scope.now (item_tree item.now)) }
+) -> Result<Said, AllocError>
+    ensures subscripts { IfOk result (λ s. s.subscripts ≡ statement_subscripts scope.now (item_tree item.now)) }
+    ensures widths { IfOk result (λ s. s.widths ≡ statement_widths scope.now (item_tree item.now)) }
+    ensures shadow { IfOk result (λ s. s.shadow ≡ statement_shadow scope.now (item_tree item.now)) }
     ensures breaches { OnOk result (breaches.new ≡ least_with breaches.old
         (directive_breaches scope.now (item_tree item.now))) }
 {
     match item {
-        Item::Distribute { formats, .. } => test_each(scope, formats.as_slice(), breaches),
-        Item::Align { sources, subs, .. } => {
-            return read_align(alloc, scope, sources, subs, breaches);
+        Item::Distribute { formats, .. } => {
+            return Ok(Said {
+                subscripts: None,
+                widths: Some(read_widths(alloc, scope, formats.as_slice(), breaches)?),
+                shadow: None,
+            });
         }
-        Item::Shadow { widths, .. } => test_each(scope, widths.as_slice(), breaches),
+        Item::Align { sources, subs, .. } => {
+            return Ok(Said {
+                subscripts: read_align(alloc, scope, sources, subs, breaches)?,
+                widths: None,
+                shadow: None,
+            });
+        }
+        Item::Shadow { widths, .. } => {
+            return Ok(Said {
+                subscripts: None,
+                widths: None,
+                shadow: read_shadow(alloc, scope, widths.as_slice(), breaches)?,
+            });
+        }
         Item::Input { buffers, op, .. } => {
             test_maybe(scope, buffers, breaches);
             test_operation(scope, op, breaches);
@@ -243,5 +243,9 @@ pub(crate) fn read_directive(
         | Item::Processors(_)
         | Item::Template(_) => {}
     }
-    Ok(None)
+    Ok(Said {
+        subscripts: None,
+        widths: None,
+        shadow: None,
+    })
 }

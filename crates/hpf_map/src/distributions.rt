@@ -15,7 +15,7 @@ use crate::spaces::{meaning_shape, shape_of, test_count, used_as};
 use hpf_syntax::{FormatItem, Item, Spot};
 
 /// Whether a format divides its dimension.
-fn divides(format: &FormatItem) -> bool
+pub(crate) fn divides(format: &FormatItem) -> bool
     ensures { result ≡ divides (format_tree format.now) }
 {
     match format {

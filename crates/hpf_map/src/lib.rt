@@ -5,9 +5,9 @@
 //! - `checked` goes through the layers of constraints. Each constraint has one function that notes into the `breaches` found
 //!   so far, of which the first is kept, and no function ends early.
 //!   - `statements`: names and what they are (`declare`, `constants`, `shapes`, `values`), and what the subscripts of each ALIGN
-//!     say (`directives`, `subscripts`, `linear`, `dummy_places`).
+//!     say and the widths of each SHADOW (`directives`, `subscripts`, `linear`, `dummy_places`, `shadow_widths`).
 //!   - `alignments` and `distributions`: directives, each by itself; `ways` and `cycles`: how each name is mapped, and chains.
-//!   - `pipeline`: the lines of a pipeline.
+//!   - `pipeline`: the lines of a pipeline; `shadows`: names in SHADOW, and the first one of each array.
 //! - `direct`: the images of each array in its base; `landings`: those in its ultimate base, composed once an array
 //!   (`plain`, `compose`).
 //! - `mapped`, `mappings`: the mapping of an array, and those of all, with the stages.
@@ -25,6 +25,7 @@ mod constraint;
 mod counts;
 mod cuts;
 mod cycles;
+mod dealing;
 mod declare;
 mod direct;
 mod directives;
@@ -32,6 +33,8 @@ mod distributions;
 mod dummies;
 mod dummy_places;
 mod expressions;
+mod format_widths;
+mod formats;
 mod gathered;
 mod given;
 mod landings;
@@ -41,6 +44,7 @@ mod mapped;
 mod mappings;
 mod name;
 mod names;
+mod paired;
 mod pipeline;
 mod places;
 mod plain;
@@ -48,6 +52,8 @@ mod program;
 mod resolution;
 mod role;
 mod scope;
+mod shadow_widths;
+mod shadows;
 mod shapes;
 mod sound;
 mod spaces;

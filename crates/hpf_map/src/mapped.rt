@@ -1,22 +1,29 @@
 //! The mapping of an array, from its images in its ultimate base and how that is divided.
 
-ghost use Rattle.std.specs.Prelude.{◌≡◌, ◌<◌, ◌≤◌, ◌^◌, length, map, replicate, All, IfOk, option_copied, slice_get};
+ghost use Rattle.std.specs.Prelude.{◌≡◌, ◌<◌, ◌≤◌, ◌^◌, List, Some, length, map, replicate, All, IfOk, option_copied};
 ghost use Rattle.hpf_own.specs.KeptLists.{no_width};
 ghost use Rattle.hpf_own.specs.Lists.{IsBounds, IsSizes};
+ghost use Rattle.hpf_own.specs.Mapping.{IsSmallWidth};
 ghost use Rattle.hpf_syntax.specs.Plain.{item_tree};
-ghost use Rattle.hpf_map.specs.Mapped.{even_dim, AreEven, CanBeEven, CanBeMapped, IsMapped, target_of, CanMap};
-ghost use Rattle.hpf_map.specs.Ownership.{IsMappingOf};
+ghost use Rattle.hpf_map.specs.Mapped.{cut_dim, AreCut, CanBeCut, CanBeMapped, IsMapped, CanMap};
+ghost use Rattle.hpf_map.specs.Ownership.{shape_at, IsMappingOf};
+ghost use Rattle.hpf_map.specs.Seen.{seen};
+ghost use Rattle.hpf_map.specs.Shaded.{or_none, IsShadow};
 ghost use Rattle.hpf_map.specs.Shapes.{extent};
 ghost use Rattle.hpf_map.specs.Spaces.{run_of};
+ghost use Rattle.hpf_map.specs.Widths.{all_widths};
+ghost use Rattle.hpf_map.specs.declared.name.Span.{Span};
 
-use crate::cuts::even_axis;
-use crate::distributions::target_shape;
+use crate::cuts::cut_at;
+use crate::dealing::{Dealing, dealing_by};
+use crate::format_widths::FormatWidths;
 use crate::landings::{Landing, name_shape};
-use crate::name::{Shape, Span};
+use crate::name::Span;
 use crate::names::Names;
 use crate::shapes::extent;
+use crate::shadow_widths::ShadowWidths;
 use hpf_num::Run;
-use hpf_own::{BaseDim, BaseDims, Bounds, Cut, Image, Mapping, Sizes, Width, Widths};
+use hpf_own::{BaseDim, BaseDims, Bounds, Image, Mapping, Sizes, Width, Widths};
 use hpf_syntax::Item;
 use std::alloc::{AllocError, Global};
 
@@ -103,98 +110,100 @@ fn no_shadow(alloc: Global, rank: usize) -> Result<Widths, AllocError>
     }
 }
 
-/// A base, each dimension of which is divided evenly over the one of an arrangement with the same place, and images of an
-/// array in it.
-#[derive(Clone, Copy)]
-struct EvenBase<'a> {
-    root: &'a [Span],
-    sizes: &'a [u32],
-    images: &'a [Image],
-}
-
-/// One of its dimensions.
-#[tactic(auto, using(crate::proofs::MappedLemmas::dim_bounds, crate::proofs::MappedLemmas::dim_procs))]
-fn even_dim(alloc: Global, base: EvenBase, e: usize) -> Result<BaseDim, AllocError>
-    requires base { CanBeEven base.root.now base.sizes.now base.images.now }
-    requires dimension { e < length base.root.now }
-    ensures { IfOk result (λ dim. dim ≡ even_dim base.entry.root.now base.entry.sizes.now base.entry.images.now e) }
+/// A dimension of a base, with an image in it and how it is cut.
+fn cut_dim(
+    alloc: Global,
+    dealing: &Dealing,
+    root: &[Span],
+    images: &[Image],
+    e: usize,
+) -> Result<BaseDim, AllocError>
+    requires cut { CanBeCut (seen dealing.now) root.now }
+    requires size { length images.now ≡ length root.now }
+    requires dimension { e < length root.now }
+    ensures { IfOk result (λ dim. dim ≡ cut_dim (seen dealing.now) root.now images.now e) }
 {
-    let Span { low, high } = base.root[e];
-    let axis = even_axis(alloc, i64::from(low), i64::from(high), base.sizes[e])?;
     Ok(BaseDim {
-        image: base.images[e],
-        cut: Cut::Over {
-            dim: e as u32,
-            axis,
-        },
+        image: images[e],
+        cut: cut_at(alloc, dealing, root, e)?,
     })
 }
 
-/// All its dimensions.
-fn even_dims(alloc: Global, base: EvenBase) -> Result<BaseDims, AllocError>
-    requires { CanBeEven base.root.now base.sizes.now base.images.now }
-    ensures { IfOk result (λ dims. AreEven base.entry.root.now base.entry.sizes.now base.entry.images.now dims) }
+/// All dimensions of a base.
+fn cut_dims(
+    alloc: Global,
+    dealing: &Dealing,
+    root: &[Span],
+    images: &[Image],
+) -> Result<BaseDims, AllocError>
+    requires cut { CanBeCut (seen dealing.now) root.now }
+    requires size { length images.now ≡ length root.now }
+    ensures { IfOk result (λ dims. AreCut (seen dealing.now) root.now images.now dims) }
 {
     let mut dims = BaseDims::new(alloc);
-    for e in 0..base.root.len() {
-        dims.push(alloc, even_dim(alloc, base, e)?)?;
+    for e in 0..root.len() {
+        dims.push(alloc, cut_dim(alloc, dealing, root, images, e)?)?;
     }
     Ok(dims)
 }
 
-/// The mapping of an array by its images in its ultimate base, each dimension of which is divided over one of the target.
+/// The widths of a shadow for an array of so many dimensions: those that are given, or else no width.
+fn shadow_of(
+    alloc: Global,
+    given: Option<&ShadowWidths>,
+    rank: usize,
+) -> Result<Widths, AllocError>
+    requires some { 1 ≤ rank }
+    requires few { rank ≤ 7 }
+    requires size { length (or_none rank (option_copied given)) ≡ rank }
+    ensures { IfOk result (λ widths. widths ≡ or_none rank (option_copied given.entry)) }
+{
+    let Some(given) = given else {
+        return no_shadow(alloc, rank);
+    };
+    match Widths::new(given.as_slice()) {
+        Some(widths) => Ok(widths),
+        None => unreachable!(),
+    }
+}
+
+/// The mapping of an array by its images in its ultimate base, which is cut so, with this shadow.
 fn mapped(
     alloc: Global,
     array: &[Span],
     root: &[Span],
-    target: &[Span],
+    dealing: &Dealing,
     images: &[Image],
+    shadow: Widths,
 ) -> Result<Mapping, AllocError>
-    requires { CanBeMapped array.now root.now target.now images.now }
-    ensures { IfOk result (λ m. IsMapped array.now root.now target.now images.now m) }
+    requires shapes { CanBeMapped array.now root.now (seen dealing.now) images.now }
+    requires size { length shadow ≡ length array.now }
+    requires small { All IsSmallWidth shadow }
+    ensures { IfOk result (λ m. IsMapped array.now root.now (seen dealing.now) images.now shadow m) }
 {
     let bounds = bounds(alloc, array)?;
-    let sizes = sizes(alloc, target)?;
-    let base = EvenBase {
-        root,
-        sizes: sizes.as_slice(),
-        images,
-    };
-    let dims = even_dims(alloc, base)?;
-    let shadow = no_shadow(alloc, array.len())?;
+    let sizes = sizes(alloc, dealing.target)?;
+    let dims = cut_dims(alloc, dealing, root, images)?;
     Ok(Mapping::new(bounds, dims, sizes, shadow))
 }
 
-/// The shape of the arrangement onto which a statement distributes, where it is free.
-fn item_target<'a>(names: &'a Names, item: &Item) -> Option<&'a Shape>
-    ensures { option_copied result ≡ target_of names.now (Some (item_tree item.now)) }
-{
-    match item {
-        Item::Distribute { formats, onto, .. } => target_shape(names, formats.as_slice(), onto),
-        _ => None,
-    }
-}
-
-/// The same of the statement at a place.
-fn target_of<'a>(names: &'a Names, items: &[Item], statement: usize) -> Option<&'a Shape>
-    ensures { option_copied result ≡ target_of names.now (slice_get (map item_tree items.now) statement) }
-{
-    match items.get(statement) {
-        Some(item) => item_target(names, item),
-        None => None,
-    }
-}
-
-/// The mapping of an array by where its elements lie in its ultimate base.
+/// The mapping of an array by where its elements lie in its ultimate base, where the widths of the formats of each statement have
+/// these values, and those of the array's shadow are given.
 pub(crate) fn array_mapping(
     alloc: Global,
     names: &Names,
     items: &[Item],
+    widths: &[Option<FormatWidths>],
     array: usize,
     landing: &Landing,
+    given: Option<&ShadowWidths>,
 ) -> Result<Mapping, AllocError>
-    requires { CanMap names.now (map item_tree items.now) array landing.now.base landing.now.statement
+    requires widths { widths.now ≡ all_widths (map item_tree items.now) }
+    requires can { CanMap names.now (map item_tree items.now) array landing.now.base landing.now.statement
         landing.now.images }
+    requires shadow { (spans : List Span) → shape_at names.now (map item_tree items.now) array ≡ Some spans
+        → IsShadow names.now (map item_tree items.now) array (length spans)
+        (or_none (length spans) (option_copied given)) }
     ensures { IfOk result (λ m. IsMappingOf names.now (map item_tree items.now) array landing.now.base
         landing.now.statement m) }
 {
@@ -204,14 +213,16 @@ pub(crate) fn array_mapping(
     let Some(root) = name_shape(names, landing.base) else {
         unreachable!()
     };
-    let Some(target) = target_of(names, items, landing.statement) else {
+    let Some(dealing) = dealing_by(names, items, widths, landing.statement) else {
         unreachable!()
     };
+    let shadow = shadow_of(alloc, given, shape.len())?;
     mapped(
         alloc,
         shape,
         root,
-        target.as_slice(),
+        &dealing,
         landing.images.as_slice(),
+        shadow,
     )
 }

@@ -4,13 +4,17 @@ ghost use Rattle.std.specs.Prelude.{◌≡◌, ◌<◌, length, map, All, IfOk, 
 ghost use Rattle.std.specs.List.{AllZip};
 ghost use Rattle.hpf_syntax.specs.Plain.{item_tree};
 ghost use Rattle.hpf_map.specs.Layers.{names_of};
+ghost use Rattle.hpf_map.specs.Widths.{all_widths};
 ghost use Rattle.hpf_map.specs.Mappings.{array_at, MapsAt, AreMappings, CanMapAll, IsMappedLine, IsStageOf};
+ghost use Rattle.hpf_map.specs.Shaded.{AreShadows};
 
+use crate::format_widths::FormatWidths;
 use crate::landings::{Landing, listed_landing};
 use crate::mapped::array_mapping;
 use crate::names::Names;
 use crate::program::Stage;
 use crate::role::Role;
+use crate::shadows::Shadows;
 use crate::uses_that_map::used_place;
 use hpf_own::Mapping;
 use hpf_syntax::{Item, Spot};
@@ -31,11 +35,15 @@ fn mapping_at(
     alloc: Global,
     names: &Names,
     items: &[Item],
+    widths: &[Option<FormatWidths>],
     landings: &[Option<Landing>],
+    shadows: &Shadows,
     n: usize,
 ) -> Result<Option<Mapping>, AllocError>
     requires names { names.now ≡ names_of (map item_tree items.now) }
+    requires widths { widths.now ≡ all_widths (map item_tree items.now) }
     requires can { CanMapAll (map item_tree items.now) landings.now }
+    requires shadows { AreShadows (map item_tree items.now) shadows.now.widths.items shadows.now.first }
     requires below { n < length names.now }
     ensures { IfOk result (λ m. MapsAt (map item_tree items.now) n m) }
 {
@@ -43,7 +51,15 @@ fn mapping_at(
         return Ok(None);
     }
     match listed_landing(landings, n) {
-        Some(landing) => Ok(Some(array_mapping(alloc, names, items, n, landing)?)),
+        Some(landing) => Ok(Some(array_mapping(
+            alloc,
+            names,
+            items,
+            widths,
+            n,
+            landing,
+            shadows.given(n),
+        )?)),
         None => Ok(None),
     }
 }
@@ -53,15 +69,21 @@ pub(crate) fn all_mappings(
     alloc: Global,
     names: &Names,
     items: &[Item],
+    widths: &[Option<FormatWidths>],
     landings: &[Option<Landing>],
+    shadows: &Shadows,
 ) -> Result<Vec<Option<Mapping>>, AllocError>
     requires names { names.now ≡ names_of (map item_tree items.now) }
+    requires widths { widths.now ≡ all_widths (map item_tree items.now) }
     requires can { CanMapAll (map item_tree items.now) landings.now }
+    requires shadows { AreShadows (map item_tree items.now) shadows.now.widths.items shadows.now.first }
     ensures { IfOk result (λ mappings. AreMappings (map item_tree items.now) mappings.items) }
 {
     let mut mappings = Vec::new(alloc);
     for n in 0..names.as_slice().len() {
-        mappings.push(mapping_at(alloc, names, items, landings, n)?)?;
+        mappings.push(mapping_at(
+            alloc, names, items, widths, landings, shadows, n,
+        )?)?;
     }
     Ok(mappings)
 }
@@ -71,18 +93,22 @@ fn stage(
     alloc: Global,
     names: &Names,
     items: &[Item],
+    widths: &[Option<FormatWidths>],
     landings: &[Option<Landing>],
+    shadows: &Shadows,
     line: &Spot,
 ) -> Result<Stage, AllocError>
     requires names { names.now ≡ names_of (map item_tree items.now) }
+    requires widths { widths.now ≡ all_widths (map item_tree items.now) }
     requires can { CanMapAll (map item_tree items.now) landings.now }
+    requires shadows { AreShadows (map item_tree items.now) shadows.now.widths.items shadows.now.first }
     requires mapped { IsMappedLine (map item_tree items.now) line.now }
     ensures { IfOk result (λ stage. IsStageOf (map item_tree items.now) line.now stage) }
 {
     let Some(n) = used_place(names, Role::Array, &line.word) else {
         unreachable!()
     };
-    match mapping_at(alloc, names, items, landings, n)? {
+    match mapping_at(alloc, names, items, widths, landings, shadows, n)? {
         Some(mapping) => Ok(Stage {
             array: line.word,
             mapping,
@@ -96,17 +122,23 @@ pub(crate) fn all_stages(
     alloc: Global,
     names: &Names,
     items: &[Item],
+    widths: &[Option<FormatWidths>],
     landings: &[Option<Landing>],
+    shadows: &Shadows,
     lines: &[Spot],
 ) -> Result<Vec<Stage>, AllocError>
     requires names { names.now ≡ names_of (map item_tree items.now) }
+    requires widths { widths.now ≡ all_widths (map item_tree items.now) }
     requires can { CanMapAll (map item_tree items.now) landings.now }
+    requires shadows { AreShadows (map item_tree items.now) shadows.now.widths.items shadows.now.first }
     requires mapped { All (IsMappedLine (map item_tree items.now)) lines.now }
     ensures { IfOk result (λ stages. AllZip (IsStageOf (map item_tree items.now)) lines.now stages.items) }
 {
     let mut stages = Vec::new(alloc);
     for line in lines {
-        stages.push(stage(alloc, names, items, landings, line)?)?;
+        stages.push(stage(
+            alloc, names, items, widths, landings, shadows, line,
+        )?)?;
     }
     Ok(stages)
 }

@@ -57,6 +57,8 @@ impl Shape {
 #[derive(Drop)]
 pub struct Values {
     values: Vec<i32>,
+    /// The least and the greatest of them, if there are any.
+    range: Option<Span>,
 }
 
 impl Model for Values {
@@ -64,15 +66,23 @@ impl Model for Values {
 
     ghost Value = { List ℤ };
 
+    ghost use Rattle.hpf_map.specs.Ranges.{HasRange};
+
     ghost view = { λ v. v.values.items };
+
+    ghost invariant = { λ v. HasRange v.values.items v.range };
 }
 
 impl Values {
+    ghost use Rattle.std.specs.Prelude.{int_lt};
+    ghost use Rattle.std.specs.List.{list_any};
+
     /// These values.
     pub(crate) fn new(values: Vec<i32>) -> Values
         ensures { result ≡ values.items }
     {
-        Values { values }
+        let range = range_of(values.as_slice());
+        Values { values, range }
     }
 
     /// The values, in order.
@@ -80,6 +90,79 @@ impl Values {
         ensures { result.now ≡ self.now }
     {
         self.values.as_slice()
+    }
+
+    /// Whether some value is below this, without a look at each of them.
+    pub(crate) fn begins_below(&self, bound: i32) -> bool
+        ensures { result ≡ list_any (λ v. int_lt v bound) self.now }
+    {
+        match &self.range {
+            Some(range) => is_low_below(range, bound),
+            None => false,
+        }
+    }
+
+    /// Whether some value is above this, without a look at each of them.
+    pub(crate) fn ends_above(&self, bound: i32) -> bool
+        ensures { result ≡ list_any (λ v. int_lt bound v) self.now }
+    {
+        match &self.range {
+            Some(range) => is_high_above(range, bound),
+            None => false,
+        }
+    }
+}
+
+ghost use Rattle.std.specs.Prelude.{List, [], ◌∷◌, ◌++◌, Some, ℤ, int_lt};
+ghost use Rattle.std.specs.Int.{int_min, int_max};
+ghost use Rattle.hpf_map.specs.Ranges.{HasRange};
+
+/// Whether a range begins below this.
+fn is_low_below(range: &Span, bound: i32) -> bool
+    ensures { result ≡ int_lt range.now.low bound }
+{
+    range.low < bound
+}
+
+/// Whether a range ends above this.
+fn is_high_above(range: &Span, bound: i32) -> bool
+    ensures { result ≡ int_lt bound range.now.high }
+{
+    bound < range.high
+}
+
+/// The least and the greatest value, if there are any.
+fn range_of(values: &[i32]) -> Option<Span>
+    ensures { HasRange values.now result }
+{
+    let mut range = None;
+    for value in values {
+        range = Some(with_value(range, *value));
+    }
+    range
+}
+
+/// The least and the greatest value, with one more.
+fn with_value(range: Option<Span>, value: i32) -> Span
+    ensures { (values : List ℤ) → HasRange values range → HasRange (values ++ value ∷ []) (Some result) }
+{
+    match range {
+        Some(range) => widened(range, value),
+        None => Span {
+            low: value,
+            high: value,
+        },
+    }
+}
+
+/// A range as far as a value.
+fn widened(range: Span, value: i32) -> Span
+    ensures low { result.low ≡ int_min range.low value }
+    ensures high { result.high ≡ int_max range.high value }
+{
+    Span {
+        low: range.low.min(value),
+        high: range.high.max(value),
     }
 }
 

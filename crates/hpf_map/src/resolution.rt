@@ -1,14 +1,19 @@
 //! What a mapping text means, or why it is refused.
 
-ghost use Rattle.std.specs.Prelude.{◌≡◌, [], map, true, IfOk};
+ghost use Rattle.std.specs.BTreeMap.{get};
+ghost use Rattle.std.specs.Ordering.{nat_cmp};
+ghost use Rattle.std.specs.Prelude.{◌≡◌, ℕ, [], map, IfOk};
 ghost use Rattle.hpf_syntax.specs.Plain.{item_tree};
-ghost use Rattle.hpf_map.specs.Built.{are_built, not_built};
+ghost use Rattle.hpf_map.specs.Built.{not_built};
 ghost use Rattle.hpf_map.specs.Layers.{names_of};
 ghost use Rattle.hpf_map.specs.Mappings.{CanMapAll};
 ghost use Rattle.hpf_map.specs.Program.{IsProgram};
 ghost use Rattle.hpf_map.specs.Refusal.{all_breaches, Resolves};
+ghost use Rattle.hpf_map.specs.Shadows.{first_shadow};
 ghost use Rattle.hpf_map.specs.Subscripts.{all_subscripts};
 ghost use Rattle.hpf_map.specs.Ways.{ways_of};
+ghost use Rattle.hpf_map.specs.ShadowWidths.{all_shadow_widths};
+ghost use Rattle.hpf_map.specs.Widths.{all_widths};
 
 use crate::breaches::Breaches;
 use crate::built::are_built;
@@ -19,6 +24,7 @@ use crate::landings::{Landing, all_landings};
 use crate::mappings::{all_mappings, all_stages};
 use crate::pipeline::lines;
 use crate::program::{Need, Program};
+use crate::shadows::Shadows;
 use hpf_lex::{MapError, MapRefusal};
 use hpf_syntax::{Item, Items};
 use std::alloc::{AllocError, Global};
@@ -41,7 +47,6 @@ fn landings_of(
     need: Need,
     checked: &Checked,
 ) -> Result<Vec<Option<Landing>>, AllocError>
-    requires built { are_built (map item_tree items.now) ≡ true }
     requires none { all_breaches need (map item_tree items.now) ≡ [] }
     requires names { checked.now.statements.names ≡ names_of (map item_tree items.now) }
     requires said { checked.now.statements.said.items ≡ all_subscripts (map item_tree items.now) }
@@ -61,20 +66,36 @@ fn program_of(
     need: Need,
     checked: Checked,
 ) -> Result<Program, AllocError>
-    requires built { are_built (map item_tree items.now) ≡ true }
     requires none { all_breaches need (map item_tree items.now) ≡ [] }
     requires names { checked.statements.names ≡ names_of (map item_tree items.now) }
     requires said { checked.statements.said.items ≡ all_subscripts (map item_tree items.now) }
+    requires widths { checked.statements.widths.items ≡ all_widths (map item_tree items.now) }
     requires ways { checked.ways ≡ ways_of (names_of (map item_tree items.now)) (map item_tree items.now) }
+    requires shadow_widths { checked.statements.shadows.items ≡ all_shadow_widths (map item_tree items.now) }
+    requires shadows { (n : ℕ) → get nat_cmp checked.first_shadows n
+        ≡ first_shadow (names_of (map item_tree items.now)) (map item_tree items.now) n }
     ensures { IfOk result (λ program. IsProgram (map item_tree items.now) program) }
 {
     let landings = landings_of(alloc, items, need, &checked)?;
     let statements = checked.statements;
     let names = statements.names;
+    let widths = statements.widths.as_slice();
+    let shadows = Shadows {
+        widths: statements.shadows,
+        first: checked.first_shadows,
+    };
     let landings = landings.as_slice();
-    let mappings = all_mappings(alloc, &names, items, landings)?;
+    let mappings = all_mappings(alloc, &names, items, widths, landings, &shadows)?;
     let lines = lines(alloc, items)?;
-    let stages = all_stages(alloc, &names, items, landings, lines.as_slice())?;
+    let stages = all_stages(
+        alloc,
+        &names,
+        items,
+        widths,
+        landings,
+        &shadows,
+        lines.as_slice(),
+    )?;
     let counts = counts(alloc, &names, items)?;
     Ok(Program::new(names, mappings, stages, counts))
 }

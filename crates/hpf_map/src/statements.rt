@@ -1,4 +1,4 @@
-//! The names that a text declares, and the breaches in names, values, shapes and lists.
+//! The names that a text declares, and the breaches in names, values, shapes, lists and widths.
 
 ghost use Rattle.std.specs.Prelude.{◌≡◌, List, [], map, fold, IfOk, OnOk};
 ghost use Rattle.std.specs.List.{flat_map};
@@ -6,16 +6,20 @@ ghost use Rattle.hpf_syntax.specs.Plain.{item_tree};
 ghost use Rattle.hpf_map.specs.Declarations.{threaded, no_dimensions, names_after, declaration_breaches};
 ghost use Rattle.hpf_map.specs.Found.{least_with};
 ghost use Rattle.hpf_map.specs.Layers.{names_of, ordered_breaches, breaches_in, judged, Judges};
+ghost use Rattle.hpf_map.specs.ShadowWidths.{all_shadow_widths, statement_shadow};
 ghost use Rattle.hpf_map.specs.Subscripts.{all_subscripts, statement_subscripts};
 ghost use Rattle.hpf_map.specs.Uses.{item_use_breaches};
+ghost use Rattle.hpf_map.specs.Widths.{all_widths, statement_widths};
 
 use crate::breaches::Breaches;
 use crate::constants::declare_constants;
 use crate::declare::{common_limit, declare_all, dimensions};
-use crate::directives::read_directive;
+use crate::directives::{Said, read_directive};
+use crate::format_widths::FormatWidths;
 use crate::name::{Dimensions, Shape, Space};
 use crate::names::Names;
 use crate::scope::Scope;
+use crate::shadow_widths::ShadowWidths;
 use crate::shapes::MAX_EXTENT;
 use crate::subscripts::Subscripts;
 use crate::uses::test_item;
@@ -105,17 +109,18 @@ fn declare_item(
     }
 }
 
-/// Reads a statement behind others: its expressions, and then what it declares. Of an ALIGN it gives what the subscripts
-/// say.
+/// Reads a statement behind others: its expressions, of which it gives what they say, and then what it declares.
 #[tactic(auto, using(crate::proofs::FoundLemmas::least_with_laws), unfolding(crate::specs::Layers::ordered_breaches))]
 fn read_item(
     alloc: Global,
     names: &mut Names,
     item: &Item,
     breaches: &mut Breaches,
-) -> Result<Option<Subscripts>, AllocError>
+) -> Result<Said, AllocError>
     ensures names { OnOk result (names.new ≡ names_after names.old (item_tree item.now)) }
-    ensures said { IfOk result (λ s. s ≡ statement_subscripts names.old (item_tree item.now)) }
+    ensures subscripts { IfOk result (λ s. s.subscripts ≡ statement_subscripts names.old (item_tree item.now)) }
+    ensures widths { IfOk result (λ s. s.widths ≡ statement_widths names.old (item_tree item.now)) }
+    ensures shadow { IfOk result (λ s. s.shadow ≡ statement_shadow names.old (item_tree item.now)) }
     ensures breaches { OnOk result (breaches.new ≡ least_with breaches.old
         (ordered_breaches names.old (item_tree item.now))) }
 {
@@ -124,15 +129,17 @@ fn read_item(
     Ok(said)
 }
 
-/// What statements declare, and what the subscripts of each say.
+/// What statements declare, what the subscripts of each say, and the widths in its formats and of its shadow.
 #[derive(Drop)]
 pub(crate) struct Statements {
     pub names: Names,
     pub said: Vec<Option<Subscripts>>,
+    pub widths: Vec<Option<FormatWidths>>,
+    pub shadows: Vec<Option<ShadowWidths>>,
 }
 
 /// Reads statements one after another.
-#[tactic(auto, using(crate::proofs::FoundLemmas::least_with_laws), unfolding(crate::specs::Subscripts::all_subscripts))]
+#[tactic(auto, using(crate::proofs::FoundLemmas::least_with_laws), unfolding(crate::specs::Subscripts::all_subscripts, crate::specs::Widths::all_widths, crate::specs::ShadowWidths::all_shadow_widths))]
 fn read_items(
     alloc: Global,
     items: &[Item],
@@ -140,15 +147,27 @@ fn read_items(
 ) -> Result<Statements, AllocError>
     ensures names { IfOk result (λ s. s.names ≡ fold names_after [] (map item_tree items.now)) }
     ensures said { IfOk result (λ s. s.said.items ≡ all_subscripts (map item_tree items.now)) }
+    ensures widths { IfOk result (λ s. s.widths.items ≡ all_widths (map item_tree items.now)) }
+    ensures shadows { IfOk result (λ s. s.shadows.items ≡ all_shadow_widths (map item_tree items.now)) }
     ensures breaches { OnOk result (breaches.new ≡ least_with breaches.old
         (threaded names_after ordered_breaches [] (map item_tree items.now))) }
 {
     let mut names = Names::new(alloc);
     let mut said = Vec::new(alloc);
+    let mut widths = Vec::new(alloc);
+    let mut shadows = Vec::new(alloc);
     for item in items {
-        said.push(read_item(alloc, &mut names, item, breaches)?)?;
+        let read = read_item(alloc, &mut names, item, breaches)?;
+        said.push(read.subscripts)?;
+        widths.push(read.widths)?;
+        shadows.push(read.shadow)?;
     }
-    Ok(Statements { names, said })
+    Ok(Statements {
+        names,
+        said,
+        widths,
+        shadows,
+    })
 }
 
 /// The names that directives and pipeline lines use.
@@ -162,7 +181,8 @@ fn test_items(names: &Names, items: &[Item], breaches: &mut Breaches)
     }
 }
 
-/// What statements declare and what their subscripts say. The breaches in names, values, shapes and lists are taken in.
+/// What statements declare, and what their subscripts and widths say. The breaches in names, values, shapes, lists and widths are
+/// taken in.
 #[tactic(auto, using(crate::proofs::FoundLemmas::least_with_laws), unfolding(crate::specs::Layers::names_of, crate::specs::Layers::breaches_in))]
 pub(crate) fn read_statements(
     alloc: Global,
@@ -171,6 +191,8 @@ pub(crate) fn read_statements(
 ) -> Result<Statements, AllocError>
     ensures names { IfOk result (λ s. s.names ≡ names_of (map item_tree items.now)) }
     ensures said { IfOk result (λ s. s.said.items ≡ all_subscripts (map item_tree items.now)) }
+    ensures widths { IfOk result (λ s. s.widths.items ≡ all_widths (map item_tree items.now)) }
+    ensures shadows { IfOk result (λ s. s.shadows.items ≡ all_shadow_widths (map item_tree items.now)) }
     ensures breaches { OnOk result (breaches.new ≡ least_with breaches.old
         (breaches_in (map item_tree items.now))) }
 {
@@ -180,7 +202,7 @@ pub(crate) fn read_statements(
 }
 
 /// The names that a text declares, each with what its first declaration makes it. The text is refused where one of its
-/// names, values, shapes or lists breaks a constraint, with the breach that comes first by line, column and code.
+/// names, values, shapes, lists or widths breaks a constraint, with the breach that comes first by line, column and code.
 #[tactic(auto, unfolding(crate::specs::Found::least_with))]
 pub fn declared_names(alloc: Global, items: &Items) -> Result<Names, MapError>
     // A text without a breach has exactly its names, and any other has exactly its first breach.

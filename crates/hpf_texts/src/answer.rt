@@ -1,6 +1,7 @@
 //! What comes of a text.
 
 use crate::elements::owners_in;
+use crate::held::held_in;
 use crate::lexemes::lexemes;
 use crate::text::text_of;
 use crate::trees::statements;
@@ -25,6 +26,8 @@ pub enum Asked {
     Program(Need),
     /// The owners of the elements of an array, whose name follows the text behind `~`.
     Owners,
+    /// What each processor holds of an array, whose name follows the text behind `~`.
+    Held,
 }
 
 /// The answer to what is asked of the text of a row.
@@ -38,6 +41,10 @@ pub fn answer(alloc: Global, asked: Asked, row: &str) -> Result<String> {
         Asked::Owners => {
             let (row, word) = row.split_once('~').context("a row without a word")?;
             owners(alloc, &text_of(alloc, row)?, word)
+        }
+        Asked::Held => {
+            let (row, word) = row.split_once('~').context("a row without a word")?;
+            held(alloc, &text_of(alloc, row)?, word)
         }
     }
 }
@@ -69,6 +76,14 @@ pub fn canonical_in(alloc: Global, text: &str) -> Result<String, MapError> {
 pub fn owners(alloc: Global, text: &str, word: &str) -> Result<String> {
     match program(alloc, text, Need::Mapping) {
         Ok(program) => owners_in(alloc, &program, word),
+        Err(error) => Ok(judged(alloc, Err(error))?),
+    }
+}
+
+/// What each processor holds of an array of a text, or its refusal.
+fn held(alloc: Global, text: &str, word: &str) -> Result<String> {
+    match program(alloc, text, Need::Mapping) {
+        Ok(program) => held_in(alloc, &program, word),
         Err(error) => Ok(judged(alloc, Err(error))?),
     }
 }

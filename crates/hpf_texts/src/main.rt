@@ -12,6 +12,7 @@
 
 mod answer;
 mod elements;
+mod held;
 mod lexemes;
 mod long;
 mod made;

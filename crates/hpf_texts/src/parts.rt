@@ -201,7 +201,7 @@ fn push_elements(alloc: Global, part: &Held, to: &mut String) -> Result<()> {
 }
 
 /// Adds an index, behind a space.
-fn push_index(index: &[i64], to: &mut String) -> Result<(), AllocError> {
+pub fn push_index(index: &[i64], to: &mut String) -> Result<(), AllocError> {
     for (d, subscript) in index.iter().enumerate() {
         to.push(if d == 0 { ' ' } else { ',' })?;
         write!(to, "{subscript}")?;

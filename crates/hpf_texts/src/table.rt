@@ -6,6 +6,7 @@ use hpf_map::Need;
 use hpf_vectors::canonical;
 use hpf_vectors::constraints::{DECLARATIONS, DIRECTIVES, NOT_BUILT, OWNERS, PIPELINES};
 use hpf_vectors::grammar;
+use hpf_vectors::shadows::{HELD, SHADOWS};
 use hpf_vectors::tokens;
 use std::alloc::Global;
 
@@ -108,6 +109,16 @@ pub const TABLES: &[Table] = &[
         title: "owners",
         asked: Asked::Owners,
         rows: OWNERS,
+    },
+    Table {
+        title: "shadows",
+        asked: Asked::Program(Need::Mapping),
+        rows: SHADOWS,
+    },
+    Table {
+        title: "held parts",
+        asked: Asked::Held,
+        rows: HELD,
     },
 ];
 

@@ -261,13 +261,12 @@ pub const NOT_BUILT: &str = "\
     INTEGER A(4,4)\n!HPF$ PROCESSORS P(2)\n!HPF$ DISTRIBUTE A(BLOCK, *) ONTO P~refused 9 at 1:1|\
     INTEGER A(4)\n!HPF$ PROCESSORS P(2)\n!HPF$ DISTRIBUTE A(GEN_BLOCK(G)) ONTO P~refused 9 at 1:1|\
     INTEGER A(4)\n!HPF$ PROCESSORS P(2)\n!HPF$ DISTRIBUTE A(INDIRECT(G)) ONTO P~refused 9 at 1:1|\
-    INTEGER A(4)\n!HPF$ SHADOW A(1)~refused 9 at 1:1|\
-    INTEGER A(4), A(4)\n!HPF$ SHADOW A(1)~refused 9 at 1:1|\
+    INTEGER A(4), A(4)\n!HPF$ SHADOW A(1)\n!PIPE$ STAGE A~refused 9 at 1:1|\
     INTEGER A(4)\n!PIPE$ STAGE A~refused 9 at 1:1|\
     INTEGER A(4)\n!PIPE$ INPUT A BUFFERS(2)~refused 9 at 1:1|\
     INTEGER A(4)\n!PIPE$ INPUT A ADD(1)~refused 9 at 1:1|\
     INTEGER A(4)\n!PIPE$ INPUT X PREFIX(1)~refused 9 at 1:1|\
-    INTEGER A(4:3)\n!HPF$ ALIGN A WITH X\n!HPF$ SHADOW A(1)~refused 9 at 1:1|\
+    INTEGER A(4:3)\n!HPF$ ALIGN A WITH X\n!HPF$ SHADOW A(-1)\n!PIPE$ INPUT A MUL(2)~refused 9 at 1:1|\
     ";
 
 /// Texts, a word, and the owners of each element of the array that it is, in element order and with commas between several

@@ -6,4 +6,5 @@ pub mod canonical;
 pub mod commands;
 pub mod constraints;
 pub mod grammar;
+pub mod shadows;
 pub mod tokens;

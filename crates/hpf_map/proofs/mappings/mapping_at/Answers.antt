@@ -1,15 +1,25 @@
-use Rattle.std.proofs.Common.{sym, subst, map}
+use Rattle.std.proofs.Common.{◌≡◌, List, Some, length, sym, subst, map}
+use Rattle.std.specs.Prelude.{option_copied}
 use Rattle.hpf_syntax.specs.Plain.{item_tree}
+use Rattle.hpf_map.specs.declared.name.Span.{Span}
+use Rattle.hpf_map.specs.Layers.{names_of}
 use Rattle.hpf_map.specs.Mapped.{CanMap}
-use Rattle.hpf_map.specs.Ownership.{IsMappingOf}
+use Rattle.hpf_map.specs.Ownership.{shape_at, IsMappingOf}
+use Rattle.hpf_map.specs.Shaded.{or_none, IsShadow}
 use Rattle.hpf_map.proofs.ResolveLemmas.{can_map, maps_listed, inner_some, array_seen}
 use Rattle.hpf_map.proofs.mappings.mapping_at.Goals as goal
 
-pub array_mapping-requires : goal.array_mapping-requires
-array_mapping-requires c =
+pub array_mapping-requires-clause-can : goal.array_mapping-requires-clause-can
+array_mapping-requires-clause-can c =
     let l = c.in-Some.landing.now in
     subst (λ names. CanMap names (map item_tree c.args.items.now) c.args.n l.base l.statement l.images) (sym c.requires.names)
     (can_map (map item_tree c.args.items.now) c.args.landings.now c.requires.can c.args.n l (array_seen (map item_tree c.args.items.now) c.args.names.now c.args.n c.is_array.result c.requires.names c.is_array.ensures c.if-not-is_array.false) (inner_some _ l c.in-Some.ensures))
+
+pub array_mapping-requires-clause-shadow : goal.array_mapping-requires-clause-shadow
+array_mapping-requires-clause-shadow c =
+    let items = map item_tree c.args.items.now in
+    subst (λ names. (spans : List Span) → shape_at names items c.args.n ≡ Some spans → IsShadow names items c.args.n (length spans) (or_none (length spans) (option_copied c.given.result))) (sym c.requires.names)
+    (λ spans has. subst (λ g. IsShadow (names_of items) items c.args.n (length spans) (or_none (length spans) g)) (sym c.given.ensures) (c.requires.shadows.each c.args.n spans has))
 
 pub returns-in_ok-array_mapping-in-Some : goal.returns-in_ok-array_mapping-in-Some
 returns-in_ok-array_mapping-in-Some c =

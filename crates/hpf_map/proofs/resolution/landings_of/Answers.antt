@@ -23,5 +23,5 @@ pub returns : goal.returns
 returns c =
     ok_both _ _ _
     (λ landings lands settled. can_map_by c.args.need (map item_tree c.args.items.now) c.args.checked.now.statements.names c.args.checked.now.ways c.as_slice.result.now landings.items
-    c.requires.names c.requires.ways (c.as_slice.ensures.value ∙ c.in_ok-direct.ensures) c.requires.none c.requires.built lands settled)
+    c.requires.names c.requires.ways (c.as_slice.ensures.value ∙ c.in_ok-direct.ensures) c.requires.none lands settled)
     c.all_landings.result c.all_landings.ensures.lands c.all_landings.ensures.settled

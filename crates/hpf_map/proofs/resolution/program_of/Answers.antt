@@ -4,6 +4,7 @@ use Rattle.hpf_syntax.specs.Plain.{item_tree}
 use Rattle.hpf_map.specs.Mappings.{IsMappedLine, IsStageOf}
 use Rattle.hpf_map.specs.Program.{IsProgram}
 use Rattle.hpf_map.proofs.ResolveLemmas.{lines_mapped, lines_few, zip_long, program_is}
+use Rattle.hpf_map.proofs.ShadedLemmas.{shadows_are}
 use Rattle.hpf_map.proofs.resolution.program_of.Goals as goal
 
 pub all_stages-requires-clause-mapped : goal.all_stages-requires-clause-mapped
@@ -26,3 +27,9 @@ returns c =
     (program_is items _ _ _ _ c.requires.names c.in_ok-mappings.ensures
     (subst (λ lines. AllZip (IsStageOf items) lines c.in_ok-stages.stages.items) (c.as_slice.ensures.value ∙ c.in_ok-lines.ensures) c.in_ok-stages.ensures)
     c.in_ok-counts.ensures)
+
+pub all_mappings-requires-clause-shadows : goal.all_mappings-requires-clause-shadows
+all_mappings-requires-clause-shadows c = shadows_are c.args.need (map item_tree c.args.items.now) _ _ c.requires.none c.requires.shadow_widths c.requires.shadows
+
+pub all_stages-requires-clause-shadows : goal.all_stages-requires-clause-shadows
+all_stages-requires-clause-shadows c = shadows_are c.args.need (map item_tree c.args.items.now) _ _ c.requires.none c.requires.shadow_widths c.requires.shadows

@@ -1,9 +1,0 @@
-use Rattle.std.specs.Prelude.{ℕ, ◌≡◌, ◌<◌, length, slice_index_or}
-use Rattle.hpf_map.specs.Mapped.{no_dim, even_dim}
-use Rattle.hpf_map.proofs.mapped.even_dims.Given as goal
-
-abbrev pub invariant-loop-e : goal.invariant-loop-e
-invariant-loop-e l = record {
-  count : length l.dims ≡ l.e;
-  each : (k : ℕ) → k < length l.dims → slice_index_or l.dims k no_dim ≡ even_dim l.base.root.now l.base.sizes.now l.base.images.now k;
-}
