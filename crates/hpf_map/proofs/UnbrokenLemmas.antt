@@ -222,7 +222,7 @@ good names n spans sound has = subst (λ o. IfSome o AreGood) has (place_good na
 shape_there : (names : List Name) (n : ℕ) (x : Name) → slice_get names n ≡ Some x → name_shape names n ≡ meaning_shape x.meaning
 shape_there names n x there = rw there refl
 
-contains_get : {A : Type 0} (xs : List A) (k : ℕ) (x : A) → slice_get xs k ≡ Some x → Contains xs x
+pub contains_get : {A : Type 0} (xs : List A) (k : ℕ) (x : A) → slice_get xs k ≡ Some x → Contains xs x
 contains_get [] k x is = absurd (let no : None ≡ Some x = is in cc)
 contains_get (y ∷ xs) zero x is = subst (Contains (y ∷ xs)) (let same : y ≡ x = cc in same) (contains_here y xs)
 contains_get (y ∷ xs) (suc k) x is = contains_later y xs x (contains_get xs k x is)

@@ -5,8 +5,8 @@ use Rattle.hpf_map.specs.Ownership.{IsMappingOf}
 use Rattle.hpf_map.proofs.ResolveLemmas.{can_map, maps_listed, inner_some, array_seen}
 use Rattle.hpf_map.proofs.mappings.mapping_at.Goals as goal
 
-pub array_mapping-requires : goal.array_mapping-requires
-array_mapping-requires c =
+pub array_mapping-requires-clause-can : goal.array_mapping-requires-clause-can
+array_mapping-requires-clause-can c =
     let l = c.in-Some.landing.now in
     subst (λ names. CanMap names (map item_tree c.args.items.now) c.args.n l.base l.statement l.images) (sym c.requires.names)
     (can_map (map item_tree c.args.items.now) c.args.landings.now c.requires.can c.args.n l (array_seen (map item_tree c.args.items.now) c.args.names.now c.args.n c.is_array.result c.requires.names c.is_array.ensures c.if-not-is_array.false) (inner_some _ l c.in-Some.ensures))
