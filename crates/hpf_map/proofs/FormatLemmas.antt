@@ -101,8 +101,7 @@ inside_before p v h =
 places_met : (values : List ℤ) (d : ℕ) (p : Span) → differs (Some values) (Some d) ≡ false → has_stray (Some values) (Some p) ≡ false
     → IsMet d (extent p) (Some (deals.Indirect (map (before p.low) values)))
 places_met values d p count stray =
-    let inside = none_any (is_beyond p) values stray in
-    (
+    let inside = none_any (is_beyond p) values stray in (
       tt,
       record {
         each = length-map values (before p.low) ∙ same_number (length values) d count;

@@ -47,14 +47,7 @@ fn mapping_at(
         return Ok(None);
     }
     match listed_landing(landings, n) {
-        Some(landing) => Ok(Some(array_mapping(
-            alloc,
-            names,
-            items,
-            widths,
-            n,
-            landing,
-        )?)),
+        Some(landing) => Ok(Some(array_mapping(alloc, names, items, widths, n, landing)?)),
         None => Ok(None),
     }
 }

@@ -4,7 +4,7 @@ use crate::answer::{Asked, answer};
 use crate::text::text_of;
 use anyhow::{Context, Result};
 use hpf_map::Need;
-use hpf_vectors::constraints::{DECLARATIONS, DIRECTIVES, NOT_BUILT, OWNERS, PIPELINES};
+use hpf_vectors::constraints::{DECLARATIONS, DIRECTIVES, FORMATS, NOT_BUILT, OWNERS, PIPELINES};
 use std::alloc::Global;
 
 /// A table: what it is called, what is asked of its texts, and its rows.
@@ -26,6 +26,11 @@ pub const TABLES: &[Table] = &[
         title: "directives",
         asked: Asked::Program(Need::Mapping),
         rows: DIRECTIVES,
+    },
+    Table {
+        title: "formats",
+        asked: Asked::Program(Need::Mapping),
+        rows: FORMATS,
     },
     Table {
         title: "pipelines",
