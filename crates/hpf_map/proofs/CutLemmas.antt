@@ -40,8 +40,8 @@ cuts_own dealt root images dims at position cut rank long =
     let many : length dealt.formats ≡ length dims = rank ∙ sym cut.size in
     ap (λ n. list_all (is_owned_in dealt root at position) (range_with_len 0 n)) many
     ∙ owned_from (is_owned_in dealt root at position) 0 dims at position long
-      (λ k below.
-      let zero_first : 0 + k ≡ k = omega arith in
-      ap (is_owned_in dealt root at position) zero_first
-      ∙ same_owner dealt root at k (get_or position k (pos 0)) (format_at dealt root k)
-      ∙ ap (λ (d : BaseDim). is_owned d.cut at (get_or position k (pos 0))) (sym (cut.each k below)))
+    (λ k below.
+    let zero_first : 0 + k ≡ k = omega arith in
+    ap (is_owned_in dealt root at position) zero_first
+    ∙ same_owner dealt root at k (get_or position k (pos 0)) (format_at dealt root k)
+    ∙ ap (λ (d : BaseDim). is_owned d.cut at (get_or position k (pos 0))) (sym (cut.each k below)))

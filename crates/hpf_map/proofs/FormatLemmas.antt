@@ -1,5 +1,5 @@
 -- Where no breach speaks of a format, what it asks for is met.
-use Rattle.std.proofs.Common.{◌≡◌, ◌==◌, ℕ, zero, suc, ◌+◌, ◌-◌, ◌*◌, ◌^◌, ◌<◌, ◌≤◌, Bool, true, false, not, ◌&&◌, ◌||◌, List, [], ◌∷◌, ◌++◌, length, map, get_or, All, Option, Some, None, ℤ, pos, neg_ℤ, ◌+ℤ◌, ◌*ℤ◌, ◌-ℤ◌, ◌≤ℤ◌, unsigned_abs, refl, sym, ap, subst, ◌∙◌, arith, eq-eqb}
+use Rattle.std.proofs.Common.{◌≡◌, ◌==◌, ℕ, zero, suc, ◌+◌, ◌-◌, ◌*◌, ◌^◌, ◌<◌, ◌≤◌, Bool, true, false, not, ◌&&◌, ◌||◌, List, [], ◌∷◌, ◌++◌, length, map, get_or, All, Option, Some, None, ℤ, pos, negsuc, neg_ℤ, ◌+ℤ◌, ◌*ℤ◌, ◌-ℤ◌, ◌≤ℤ◌, unsigned_abs, refl, sym, ap, subst, ◌∙◌, arith, eq-eqb}
 use Rattle.std.specs.Prelude.{option_map, option_and_then, int_lt, int_le, nat_lt, is_some}
 use Rattle.std.specs.List.{list_any, sum}
 use Rattle.std.proofs.lemmas.Bool.{false≢true, eqb-true}
@@ -101,8 +101,7 @@ inside_before p v h =
 places_met : (values : List ℤ) (d : ℕ) (p : Span) → differs (Some values) (Some d) ≡ false → has_stray (Some values) (Some p) ≡ false
     → IsMet d (extent p) (Some (deals.Indirect (map (before p.low) values)))
 places_met values d p count stray =
-    let inside = none_any (is_beyond p) values stray in
-    (
+    let inside = none_any (is_beyond p) values stray in (
       tt,
       record {
         each = length-map values (before p.low) ∙ same_number (length values) d count;

@@ -6,7 +6,7 @@ use Rattle.std.proofs.lemmas.Int.{ints}
 use Rattle.std.proofs.lemmas.List.{get_or_default, length-map, length-replicate}
 use Rattle.std.proofs.lemmas.List.Elements.{All-take, All-map, All-head, All-tail}
 use Rattle.std.proofs.Math.Nat.{mul-le-mul}
-use Rattle.hpf_dist.specs.Axis.{AreBounds, AreProcs}
+use Rattle.hpf_dist.specs.Axis.{AreProcs}
 use Rattle.hpf_num.specs.declared.run.Run.{Run}
 use Rattle.hpf_num.specs.Run as run
 use Rattle.hpf_num.specs.Run.{or_zero}
@@ -107,11 +107,6 @@ target_sizes target is =
     }
 
 -- ---- one dimension
-
-pub dim_bounds : (root : List Span) (e : ℕ) (d : Span) → All (IsSoundSpan max_extent) root → e < length root → AreBounds (get_or root e d).low (get_or root e d).high
-dim_bounds root e d sound below =
-    let s : IsSoundSpan max_extent (get_or root e d) = sound e d below in
-    record { least = s.sound.near.least; order = s.sound.order; greatest = s.sound.near.greatest; positions = s.extent }
 
 factor_small : (sizes : List ℕ) (e : ℕ) → All (λ n. 1 ≤ n) sizes → e < length sizes → get_or sizes e 0 ≤ product sizes
 factor_small sizes e some below =

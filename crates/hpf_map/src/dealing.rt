@@ -104,13 +104,7 @@ pub(crate) fn dealing_by<'a>(
 
 /// The breaches of the format with this number, over a distributee with these bounds, by the dimension of the arrangement
 /// with the number `dim`.
-fn test_format_at(
-    dealing: &Dealing,
-    spans: &[Span],
-    k: usize,
-    dim: usize,
-    breaches: &mut Breaches,
-)
+fn test_format_at(dealing: &Dealing, spans: &[Span], k: usize, dim: usize, breaches: &mut Breaches)
     requires { dim ≡ over (seen dealing.now).formats k }
     ensures { breaches.new ≡ least_with breaches.old (breaches_at (seen dealing.now) spans.now k) }
 {
@@ -168,12 +162,7 @@ fn test_each_sized(dealing: &Dealing, distributees: &[Spot], breaches: &mut Brea
 
 /// The breaches in the formats of a DISTRIBUTE, where the values of its widths are these.
 #[tactic(auto, using(crate::proofs::FoundLemmas::least_with_laws), unfolding(crate::specs::Dealing::formats_breaches))]
-fn test_formats(
-    names: &Names,
-    item: &Item,
-    widths: Option<&FormatWidths>,
-    breaches: &mut Breaches,
-)
+fn test_formats(names: &Names, item: &Item, widths: Option<&FormatWidths>, breaches: &mut Breaches)
     ensures { breaches.new ≡ least_with breaches.old
         (formats_breaches names.now (item_tree item.now) (option_copied widths.entry)) }
 {

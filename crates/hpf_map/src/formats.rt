@@ -102,11 +102,7 @@ pub(crate) fn or_zero(value: i32) -> u32
 }
 
 /// Whether there is a length for each processor and none is negative, but together they are shorter than the dimension.
-fn lengths_fall_short(
-    values: Option<&Values>,
-    positions: Option<u64>,
-    procs: Option<&Span>,
-) -> bool
+fn lengths_fall_short(values: Option<&Values>, positions: Option<u64>, procs: Option<&Span>) -> bool
     ensures { result ≡ lengths_fall_short (option_copied values.entry) positions (option_copied procs.entry) }
 {
     match (values, positions, procs) {
@@ -161,8 +157,8 @@ fn test_lengths(
 )
     ensures { breaches.new ≡ least_with breaches.old
         (breach_if (differs (option_copied lengths.entry) (option_map extent (option_copied procs.entry))) LengthCount at
-            ++ breach_if (has_negative (option_copied lengths.entry)) NegativeLength at
-            ++ breach_if (lengths_fall_short (option_copied lengths.entry) positions (option_copied procs.entry)) LengthSum at) }
+        ++ breach_if (has_negative (option_copied lengths.entry)) NegativeLength at
+        ++ breach_if (lengths_fall_short (option_copied lengths.entry) positions (option_copied procs.entry)) LengthSum at) }
 {
     breaches.note_if(
         differs(lengths, procs.map(extent)),

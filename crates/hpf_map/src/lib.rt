@@ -5,12 +5,15 @@
 //! - `checked` goes through the layers of constraints. Each constraint has one function that notes into the `breaches` found
 //!   so far, of which the first is kept, and no function ends early.
 //!   - `statements`: names and what they are (`declare`, `constants`, `shapes`, `values`), and what the subscripts of each ALIGN
-//!     say and the widths of each SHADOW (`directives`, `subscripts`, `linear`, `dummy_places`, `shadow_widths`).
-//!   - `alignments` and `distributions`: directives, each by itself; `ways` and `cycles`: how each name is mapped, and chains.
+//!     say, the widths of each DISTRIBUTE and those of each SHADOW (`directives`, `subscripts`, `linear`, `dummy_places`,
+//!     `format_widths`, `shadow_widths`).
+//!   - `alignments` and `distributions`: directives, each by itself; `dealing` and `formats`: what each format of a DISTRIBUTE
+//!     asks for; `ways` and `cycles`: how each name is mapped, and chains.
 //!   - `pipeline`: the lines of a pipeline; `shadows`: names in SHADOW, and the first one of each array.
 //! - `direct`: the images of each array in its base; `landings`: those in its ultimate base, composed once an array
 //!   (`plain`, `compose`).
-//! - `mapped`, `mappings`: the mapping of an array, and those of all, with the stages.
+//! - `cuts`: how each dimension of a base is divided; `mapped`, `mappings`: the mapping of an array, and those of all, with
+//!   the stages.
 //! - `resolution` joins them to a [`Program`].
 #![tactic(auto)]
 

@@ -10,6 +10,9 @@ use std::alloc::{AllocError, Global};
 /// How many names a text may declare, but one.
 const MANY: u32 = 1023;
 
+/// How many values a long list has.
+const LONG: u32 = 100000;
+
 /// The text of which the counts and the first stage are told.
 const PIPELINE: &str = "INTEGER A(3), B(3)\n!HPF$ TEMPLATE T(3)\n!HPF$ PROCESSORS P(2)\n\
     !HPF$ ALIGN B WITH T\n!HPF$ DISTRIBUTE T(BLOCK) ONTO P\n!PIPE$ INPUT B\n";
@@ -19,6 +22,7 @@ pub fn push_made(alloc: Global, to: &mut String) -> Result<()> {
     push_chain(alloc, to)?;
     push_cycle(alloc, to)?;
     push_steep(alloc, to)?;
+    push_long_lists(alloc, to)?;
     push_pipeline(alloc, to)
 }
 
@@ -50,6 +54,41 @@ fn push_steep(alloc: Global, to: &mut String) -> Result<()> {
     let owners = owners(alloc, &text, "N1")?;
     writeln!(to, "steep chain of 300 arrays, owners of N1: {owners}")?;
     Ok(())
+}
+
+/// A long list as the owners of as many positions, as lengths, and as the owners in very many directives.
+fn push_long_lists(alloc: Global, to: &mut String) -> Result<()> {
+    push_long_list(alloc, "INDIRECT", 1, to)?;
+    push_long_list(alloc, "GEN_BLOCK", 1, to)?;
+    push_long_list(alloc, "INDIRECT", 20000, to)
+}
+
+/// What comes of a text that distributes an array by a long list so many times.
+fn push_long_list(alloc: Global, format: &str, times: u32, to: &mut String) -> Result<()> {
+    let text = long_list(alloc, format, times)?;
+    let came = judged(alloc, judge(alloc, &text, Need::Mapping))?;
+    writeln!(
+        to,
+        "{format} of {LONG} values in {times} directives: {came}"
+    )?;
+    Ok(())
+}
+
+/// A text that distributes an array by a long list so many times.
+fn long_list(alloc: Global, format: &str, times: u32) -> Result<String, AllocError> {
+    let mut text = String::new(alloc);
+    write!(
+        text,
+        "INTEGER A({LONG})\nINTEGER, PARAMETER :: V({LONG}) = (/ 1"
+    )?;
+    for _ in 1..LONG {
+        text.push_str(", 2")?;
+    }
+    writeln!(text, " /)\n!HPF$ PROCESSORS P(2)")?;
+    for _ in 0..times {
+        writeln!(text, "!HPF$ DISTRIBUTE A({format}(V))")?;
+    }
+    Ok(text)
 }
 
 /// The counts and the first stage of a pipeline.

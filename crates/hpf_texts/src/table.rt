@@ -4,7 +4,7 @@ use crate::answer::{Asked, answer};
 use anyhow::{Context, Result};
 use hpf_map::Need;
 use hpf_vectors::canonical;
-use hpf_vectors::constraints::{DECLARATIONS, DIRECTIVES, NOT_BUILT, OWNERS, PIPELINES};
+use hpf_vectors::constraints::{DECLARATIONS, DIRECTIVES, FORMATS, NOT_BUILT, OWNERS, PIPELINES};
 use hpf_vectors::grammar;
 use hpf_vectors::shadows::{HELD, SHADOWS};
 use hpf_vectors::tokens;
@@ -89,6 +89,11 @@ pub const TABLES: &[Table] = &[
         title: "directives",
         asked: Asked::Program(Need::Mapping),
         rows: DIRECTIVES,
+    },
+    Table {
+        title: "formats",
+        asked: Asked::Program(Need::Mapping),
+        rows: FORMATS,
     },
     Table {
         title: "pipelines",

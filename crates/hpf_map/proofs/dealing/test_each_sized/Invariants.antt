@@ -11,4 +11,4 @@ abbrev pub invariant-loop-distributee : goal.invariant-loop-distributee
 invariant-loop-distributee l =
     l.breaches
     ≡ least_with l.initial.breaches
-      (flat_map (λ distributee. sized_breaches (seen l.dealing) (shape_of (seen l.dealing).names role.Mapped distributee.word)) (take l.distributee-index l.distributees))
+    (flat_map (λ distributee. sized_breaches (seen l.dealing) (shape_of (seen l.dealing).names role.Mapped distributee.word)) (take l.distributee-index l.distributees))
