@@ -23,11 +23,7 @@ impl Axis {
         ensures same { (j : ℕ) → j < result → owner_at self.now (t +ℤ (pos j *ℤ step)) ≡ owner_at self.now t }
     {
         let around = self.around(self.positions_before(t));
-        let room = if step < 0 {
-            around.below
-        } else {
-            around.above
-        };
+        let room = if step < 0 { around.below } else { around.above };
         stretch(room, step.unsigned_abs())
     }
 }
