@@ -52,9 +52,10 @@ the_last run r h high =
 -- the index at a place of the element order, one dimension more in front
 joined : (run : Run) (bounds : List Run) (q r : ℕ) → q < length (indices bounds) → r < length (integers run) → (q * length (integers run) + r < length (indices (run ∷ bounds))) × (get_or (indices (run ∷ bounds)) (q * length (integers run) + r) [] ≡ (run.low +ℤ pos r) ∷ get_or (indices bounds) q [])
 joined run bounds q r chosen inside =
-    let rest = map integers bounds in
-    (omega (arith, length_more (integers run) rest, mul-add-lt q (length (integers run)) r (length (indices bounds)) chosen inside),
-    get_or-choices (integers run) rest q r [] (pos 0) chosen inside ∙ ap (λ (i : ℤ). i ∷ get_or (indices bounds) q []) (integer_at run r inside))
+    let rest = map integers bounds in (
+      omega (arith, length_more (integers run) rest, mul-add-lt q (length (integers run)) r (length (indices bounds)) chosen inside),
+      get_or-choices (integers run) rest q r [] (pos 0) chosen inside ∙ ap (λ (i : ℤ). i ∷ get_or (indices bounds) q []) (integer_at run r inside),
+    )
 
 times_more : (q n r k : ℕ) → q * n + r ≡ k → r + 1 ≡ n → (q + 1) * n + 0 ≡ k + 1
 times_more q n r k e f = omega arith
@@ -69,9 +70,11 @@ carried : (run : Run) (bounds : List Run) (k q r : ℕ) (next : List ℤ) (more 
 carried run bounds k q r next true whole last at =
     let place : (q + 1) * length (integers run) + 0 ≡ k + 1 = times_more q (length (integers run)) r k whole last in
     let there = joined run bounds (q + 1) 0 at.0 (omega arith) in
-    let first : run.low +ℤ pos 0 ≡ run.low = omega (arith, ints) in
-    (omega (arith, there.0), ap (λ (j : ℕ). get_or (indices (run ∷ bounds)) j []) (sym place) ∙ there.1
-    ∙ ap (λ (i : ℤ). i ∷ get_or (indices bounds) (q + 1) []) first ∙ ap (λ (xs : List ℤ). run.low ∷ xs) at.1)
+    let first : run.low +ℤ pos 0 ≡ run.low = omega (arith, ints) in (
+      omega (arith, there.0),
+      ap (λ (j : ℕ). get_or (indices (run ∷ bounds)) j []) (sym place) ∙ there.1
+          ∙ ap (λ (i : ℤ). i ∷ get_or (indices bounds) (q + 1) []) first ∙ ap (λ (xs : List ℤ). run.low ∷ xs) at.1,
+    )
 carried run bounds k q r next false whole last at =
     times_all q (length (integers run)) (length (indices bounds)) (length (indices (run ∷ bounds))) r k whole last at (length_more (integers run) (map integers bounds))
 
@@ -82,9 +85,11 @@ stepped run bounds k q r i j index next more whole chosen is at less one same so
     let place : q * length (integers run) + (r + 1) ≡ k + 1 = omega arith in
     let there = joined run bounds q (r + 1) chosen inside in
     let value : run.low +ℤ pos (r + 1) ≡ j = omega (arith, ints) in
-    rw (some, same)
-    (omega (arith, there.0), ap (λ (x : ℕ). get_or (indices (run ∷ bounds)) x []) (sym place) ∙ there.1
-    ∙ ap (λ (x : ℤ). x ∷ get_or (indices bounds) q []) value ∙ ap (λ (xs : List ℤ). j ∷ xs) at)
+    rw (some, same) (
+      omega (arith, there.0),
+      ap (λ (x : ℕ). get_or (indices (run ∷ bounds)) x []) (sym place) ∙ there.1
+          ∙ ap (λ (x : ℤ). x ∷ get_or (indices bounds) q []) value ∙ ap (λ (xs : List ℤ). j ∷ xs) at,
+    )
 
 -- the next index stands at the next place, if there is one
 pub next_place : (bounds : List Run) (index next : List ℤ) (more : Bool) (k : ℕ) → IsNext bounds index next more → k < length (indices bounds) → get_or (indices bounds) k [] ≡ index → IsPlace bounds (k + 1) next more
@@ -188,9 +193,11 @@ first_place (run ∷ bounds) h =
     let rest = first_place bounds (All-tail (λ (run : Run). run.low ≤ℤ run.high) run bounds h) in
     let there = joined run bounds 0 0 rest.0 some in
     let place : 0 * length (integers run) + 0 ≡ 0 = omega arith in
-    let first : run.low +ℤ pos 0 ≡ run.low = omega (arith, ints) in
-    (omega (arith, there.0), ap (λ (x : ℕ). get_or (indices (run ∷ bounds)) x []) (sym place) ∙ there.1
-    ∙ ap (λ (i : ℤ). i ∷ get_or (indices bounds) 0 []) first ∙ ap (λ (xs : List ℤ). run.low ∷ xs) rest.1)
+    let first : run.low +ℤ pos 0 ≡ run.low = omega (arith, ints) in (
+      omega (arith, there.0),
+      ap (λ (x : ℕ). get_or (indices (run ∷ bounds)) x []) (sym place) ∙ there.1
+          ∙ ap (λ (i : ℤ). i ∷ get_or (indices bounds) 0 []) first ∙ ap (λ (xs : List ℤ). run.low ∷ xs) rest.1,
+    )
 
 pub first_lies : (bounds : List Run) → All (λ run. run.low ≤ℤ run.high) bounds → LiesIn bounds (lows bounds)
 first_lies [] h = tt
