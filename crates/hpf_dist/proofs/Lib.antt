@@ -3,3 +3,4 @@ pub mod Refusals
 pub mod Rows
 pub mod Spreads
 pub mod Sharing
+pub mod Alike

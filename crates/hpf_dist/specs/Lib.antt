@@ -4,3 +4,4 @@ pub mod Condition
 pub mod Axis
 pub mod Spread
 pub mod Shares
+pub mod Around

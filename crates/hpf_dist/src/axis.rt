@@ -5,9 +5,11 @@ ghost use Rattle.std.specs.List.{list_any};
 ghost use Rattle.hpf_dist.specs.Owner.{own, ceiling};
 ghost use Rattle.hpf_dist.specs.Spread.{IsPosition, owner_at, spread};
 ghost use Rattle.hpf_dist.specs.Condition.{HasSmallNumbers, Suits, Breaks};
+ghost use Rattle.hpf_dist.specs.Around.{IsAround};
 ghost use Rattle.hpf_dist.specs.Axis.{AreBounds, AreProcs, extent, before};
 ghost use Rattle.hpf_dist.specs.declared.refusal.AxisRefusal.{AxisRefusal};
 
+use crate::around::{Around, in_block};
 use crate::condition::refusal_of;
 use crate::format::Format;
 use crate::refusal::AxisRefusal;
@@ -93,13 +95,26 @@ impl Axis {
     }
 
     /// How many positions of the dimension lie before `t`.
-    fn positions_before(&self, t: i64) -> u64
+    pub(crate) fn positions_before(&self, t: i64) -> u64
         requires low { self.now.low ≤ℤ t }
         requires high { t ≤ℤ self.now.high }
         ensures before { result ≡ before self.now.low t }
         ensures within { result < extent self.now.low self.now.high }
     {
         (t - self.low) as u64
+    }
+
+    /// The positions around the one with so many before it.
+    pub(crate) fn around(&self, before: u64) -> Around
+        requires { before < extent self.now.low self.now.high }
+        ensures { IsAround self.now.format self.now.procs before result }
+    {
+        match &self.format {
+            Format::Block(width) => in_block(before, *width),
+            Format::Cyclic(width) => in_block(before, *width),
+            Format::GenBlock(lengths) => lengths.around(before),
+            Format::Indirect(_) => Around { below: 0, above: 0 },
+        }
     }
 
     /// Whether the processor of coordinate `c` owns one of the positions `first`, `first + step`, `first + 2 * step` and
@@ -113,7 +128,7 @@ impl Axis {
         self.owns_one_of(c, first, step, tries)
     }
 
-    /// The same, by trying each of them.
+    /// The same, by trying one of each block.
     fn owns_one_of(&self, c: u32, first: i64, step: i64, count: u64) -> bool
         requires positions { All (IsPosition self.now) (spread first step count) }
         ensures { result ≡ list_any (λ t. owner_at self.now t == c) (spread first step count) }
@@ -121,13 +136,17 @@ impl Axis {
         // (positions lie between the axis's bounds, so no sum of them is too great)
         let _ = &self.low;
         let mut t = first;
-        for k in 0..count {
+        let mut k = 0;
+        while k < count {
             if self.owner(t) == c {
                 return true;
             }
-            if k + 1 < count {
-                t += step;
+            let alike = self.alike(t, step);
+            if count - k <= alike {
+                return false;
             }
+            k += alike;
+            t += alike as i64 * step;
         }
         false
     }

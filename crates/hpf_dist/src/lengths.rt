@@ -1,9 +1,12 @@
 //! The lengths of blocks.
 
-ghost use Rattle.std.specs.Prelude.{◌≡◌, ◌+◌, ◌<◌, ◌≤◌, IfOk, length};
+ghost use Rattle.std.specs.Prelude.{◌≡◌, ℕ, ◌+◌, ◌<◌, ◌≤◌, IfOk, length};
 ghost use Rattle.std.specs.List.{sum};
+ghost use Rattle.hpf_dist.specs.Around.{IsAround};
 ghost use Rattle.hpf_dist.specs.Sums.{sum_of_first, sums};
+ghost use Rattle.hpf_dist.specs.declared.format.Format.{Format};
 
+use crate::around::Around;
 use std::alloc::{AllocError, Global};
 use std::marker::Model;
 
@@ -66,6 +69,21 @@ impl Lengths {
         let before = u128::from(before);
         let ends = self.ends.as_slice();
         ends.partition_point(|end| *end <= before) as u32
+    }
+
+    /// The positions around the one with so many before it, in its block.
+    pub(crate) fn around(&self, before: u64) -> Around
+        requires within { before < sum self.now }
+        requires few { length self.now ≤ 64 }
+        ensures { (n : ℕ) → length self.now ≤ n → IsAround (Format.GenBlock self.now) n before result }
+    {
+        let block = self.block_of(before) as usize;
+        let above = self.ends[block] - 1 - u128::from(before);
+        let length = u64::from(self.items[block]);
+        Around {
+            below: length - 1 - above as u64,
+            above: above as u64,
+        }
     }
 }
 

@@ -4,6 +4,7 @@
 //! a dimension with a format that suits it.
 #![tactic(auto)]
 
+mod around;
 mod axis;
 mod condition;
 mod format;
