@@ -38,7 +38,6 @@ pub mod FormatLemmas
 pub mod RangeLemmas
 pub mod DealingLemmas
 pub mod DistributedLemmas
-pub mod CheckedLemmas
 pub mod MappingLemmas
 pub mod AlignedLemmas
 pub mod ClearLemmas

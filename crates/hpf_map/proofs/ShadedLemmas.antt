@@ -1,9 +1,9 @@
 -- The shadow of each array of a text without a breach.
-use Rattle.std.proofs.Common.{◌≡◌, ◌==◌, ℕ, zero, suc, ◌+◌, Bool, true, false, cond, List, [], ◌∷◌, ◌++◌, length, All, Option, Some, None, inl, inr, refl, sym, ap, subst, ◌∙◌, arith}
+use Rattle.std.proofs.Common.{◌≡◌, ◌==◌, ℕ, suc, ◌+◌, Bool, true, false, cond, List, [], ◌∷◌, length, Option, Some, None, inl, inr, refl, sym, ap, subst, ◌∙◌, arith}
 use Rattle.std.specs.BTreeMap.{BTreeMap, get}
 use Rattle.std.specs.List.{find}
 use Rattle.std.specs.Ordering.{nat_cmp}
-use Rattle.std.specs.Prelude.{Contains, slice_get, option_map, option_and_then, replicate}
+use Rattle.std.specs.Prelude.{Contains, slice_get, option_map, option_and_then}
 use Rattle.std.proofs.lemmas.Bool.{eqb-true}
 use Rattle.std.proofs.lemmas.List.{length-replicate}
 use Rattle.std.proofs.lemmas.List.Elements.{All-replicate, Contains-append_cases}
@@ -17,7 +17,6 @@ use Rattle.hpf_map.specs.declared.name.Span.{Span}
 use Rattle.hpf_map.specs.declared.program.Need.{Need}
 use Rattle.hpf_map.specs.declared.role.Role.TheVariants.{Array}
 use Rattle.hpf_map.specs.declared.shadows.ShadowUse.{ShadowUse}
-use Rattle.hpf_map.specs.Fit.{IsFree}
 use Rattle.hpf_map.specs.Layers.{names_of}
 use Rattle.hpf_map.specs.Ownership.{shape_at}
 use Rattle.hpf_map.specs.Paired.{at_place}

@@ -5,8 +5,8 @@
 //! - `checked` goes through the layers of constraints. Each constraint has one function that notes into the `breaches` found
 //!   so far, of which the first is kept, and no function ends early.
 //!   - `statements`: names and what they are (`declare`, `constants`, `shapes`, `values`), and what the subscripts of each ALIGN
-//!     say, the widths of each DISTRIBUTE and those of each SHADOW (`directives`, `subscripts`, `linear`, `dummy_places`,
-//!     `format_widths`, `shadow_widths`).
+//!     and the widths of each DISTRIBUTE and SHADOW say (`directives`, `subscripts`, `linear`, `dummy_places`, `format_widths`,
+//!     `shadow_widths`).
 //!   - `alignments` and `distributions`: directives, each by itself; `dealing` and `formats`: what each format of a DISTRIBUTE
 //!     asks for; `ways` and `cycles`: how each name is mapped, and chains.
 //!   - `pipeline`: the lines of a pipeline; `shadows`: names in SHADOW, and the first one of each array.

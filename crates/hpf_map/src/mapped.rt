@@ -20,8 +20,8 @@ use crate::format_widths::FormatWidths;
 use crate::landings::{Landing, name_shape};
 use crate::name::Span;
 use crate::names::Names;
-use crate::shapes::extent;
 use crate::shadow_widths::ShadowWidths;
+use crate::shapes::extent;
 use hpf_num::Run;
 use hpf_own::{BaseDim, BaseDims, Bounds, Image, Mapping, Sizes, Width, Widths};
 use hpf_syntax::Item;
@@ -148,11 +148,7 @@ fn cut_dims(
 }
 
 /// The widths of a shadow for an array of so many dimensions: those that are given, or else no width.
-fn shadow_of(
-    alloc: Global,
-    given: Option<&ShadowWidths>,
-    rank: usize,
-) -> Result<Widths, AllocError>
+fn shadow_of(alloc: Global, given: Option<&ShadowWidths>, rank: usize) -> Result<Widths, AllocError>
     requires some { 1 ≤ rank }
     requires few { rank ≤ 7 }
     requires size { length (or_none rank (option_copied given)) ≡ rank }

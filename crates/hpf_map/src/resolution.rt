@@ -79,11 +79,11 @@ fn program_of(
     let landings = landings_of(alloc, items, need, &checked)?;
     let statements = checked.statements;
     let names = statements.names;
-    let widths = statements.widths.as_slice();
     let shadows = Shadows {
         widths: statements.shadows,
         first: checked.first_shadows,
     };
+    let widths = statements.widths.as_slice();
     let landings = landings.as_slice();
     let mappings = all_mappings(alloc, &names, items, widths, landings, &shadows)?;
     let lines = lines(alloc, items)?;

@@ -24,7 +24,7 @@ loop-item-preserved c = record {
       (c.in_ok-push-2.ensures.items ∙ ap (λ w. c.loop-item.widths.items ++ w ∷ []) c.in_ok-read.ensures.widths);
   shadows =
       threaded_more item_tree names_after (λ before item. statement_shadow before item ∷ []) c.args.items.now c.loop-item.item-index c.item-item.result
-      c.new-names.result c.loop-item.names c.loop-item.shadows.items c.push-3.new.self.items c.loop-item-test.true c.item-item.is
+      c.new-names.result c.loop-item.names c.loop-item.shadows.items c.push-in-loop-item-2.new.self.items c.loop-item-test.true c.item-item.is
       c.loop-item.invariant.threads.state c.loop-item.invariant.shadows
       (c.in_ok-push-3.ensures.items ∙ ap (λ s. c.loop-item.shadows.items ++ s ∷ []) c.in_ok-read.ensures.shadow);
 }
