@@ -38,9 +38,15 @@ file M | INTEGER A(10)
 
 row blocks of given lengths
 words hpfturn owners M A
-for L 7 9
 file M | INTEGER A(10)
-| INTEGER, PARAMETER :: G(3) = (/ 3, 0, L /)
+| INTEGER, PARAMETER :: G(3) = (/ 3, 0, 7 /)
+| !HPF$ PROCESSORS P(3)
+| !HPF$ DISTRIBUTE A(GEN_BLOCK(G)) ONTO P
+
+row the last block is cut at the upper bound
+words hpfturn owners M A
+file M | INTEGER A(10)
+| INTEGER, PARAMETER :: G(3) = (/ 3, 0, 9 /)
 | !HPF$ PROCESSORS P(3)
 | !HPF$ DISTRIBUTE A(GEN_BLOCK(G)) ONTO P
 
