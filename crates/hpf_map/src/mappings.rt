@@ -81,9 +81,7 @@ pub(crate) fn all_mappings(
 {
     let mut mappings = Vec::new(alloc);
     for n in 0..names.as_slice().len() {
-        mappings.push(mapping_at(
-            alloc, names, items, widths, landings, shadows, n,
-        )?)?;
+        mappings.push(mapping_at(alloc, names, items, widths, landings, shadows, n)?)?;
     }
     Ok(mappings)
 }
@@ -136,9 +134,7 @@ pub(crate) fn all_stages(
 {
     let mut stages = Vec::new(alloc);
     for line in lines {
-        stages.push(stage(
-            alloc, names, items, widths, landings, shadows, line,
-        )?)?;
+        stages.push(stage(alloc, names, items, widths, landings, shadows, line)?)?;
     }
     Ok(stages)
 }

@@ -3,11 +3,9 @@
 use crate::answer::{Asked, answer};
 use anyhow::{Context, Result};
 use hpf_map::Need;
-use hpf_vectors::canonical;
 use hpf_vectors::constraints::{DECLARATIONS, DIRECTIVES, FORMATS, NOT_BUILT, OWNERS, PIPELINES};
-use hpf_vectors::grammar;
 use hpf_vectors::shadows::{HELD, SHADOWS};
-use hpf_vectors::tokens;
+use hpf_vectors::{canonical, grammar, tokens};
 use std::alloc::Global;
 
 /// A table: what it is called, what is asked of its texts, and its rows.
