@@ -8,6 +8,5 @@ pub mod Owners
 pub mod OwnerSet
 pub mod Held
 pub mod Side
-pub mod TestRows
 pub mod Walk
 pub mod Members
