@@ -63,7 +63,8 @@ fn statements_in(alloc: Global, text: &str, places: bool) -> Result<String, MapE
 
 /// The canonical text of a text.
 pub fn canonical_in(alloc: Global, text: &str) -> Result<String, MapError> {
-    let items = items(alloc, text)?;
+    let tokens = tokens(alloc, text.as_bytes())?;
+    let items = parse(alloc, &tokens)?;
     let printed = print(alloc, &items)?;
     let mut canonical = String::new(alloc);
     for byte in printed.as_slice() {

@@ -21,12 +21,12 @@ mod table;
 mod text;
 mod trees;
 
-use anyhow::{Context, Result};
+use anyhow::Result;
 use long::push_long;
 use made::push_made;
 use parts::push_parts;
 use std::alloc::Global;
-use table::{TABLES, push_table};
+use table::push_all;
 
 /// Where a table can't be read, nothing but a message is printed.
 fn main(rt: HostRuntime) -> Result<()> {
@@ -38,9 +38,7 @@ fn main(rt: HostRuntime) -> Result<()> {
 /// What came of the rows of each table, of the texts that are made, and of the mappings.
 fn answers(alloc: Global) -> Result<String> {
     let mut answers = String::new(alloc);
-    for table in TABLES {
-        push_table(alloc, table, &mut answers).context(table.title)?;
-    }
+    push_all(alloc, &mut answers)?;
     push_long(alloc, &mut answers)?;
     push_made(alloc, &mut answers)?;
     push_parts(alloc, &mut answers)?;
