@@ -1,5 +1,5 @@
 -- Who owns a position, by formats and by cuts.
-use Rattle.std.proofs.Common.{◌≡◌, ◌==◌, ℕ, zero, suc, ◌+◌, ◌<◌, Bool, true, false, ◌&&◌, List, [], ◌∷◌, length, map, get_or, Option, Some, None, ℤ, pos, arith, sym, ap, ◌∙◌, refl}
+use Rattle.std.proofs.Common.{◌≡◌, ℕ, suc, ◌+◌, ◌<◌, Bool, ◌&&◌, List, [], ◌∷◌, length, get_or, Option, Some, None, ℤ, pos, arith, sym, ap, ◌∙◌, refl}
 use Rattle.std.specs.List.{list_all, range_with_len}
 use Rattle.hpf_dist.specs.Axis.{before}
 use Rattle.hpf_dist.specs.declared.format.Format.{Format}

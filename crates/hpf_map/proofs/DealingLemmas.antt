@@ -1,12 +1,12 @@
 -- Where the formats of a DISTRIBUTE have no breach, what they ask for is met.
-use Rattle.std.proofs.Common.{◌≡◌, ◌==◌, ℕ, zero, suc, ◌+◌, ◌<◌, Bool, true, false, cond, List, [], ◌∷◌, length, map, get_or, All, Option, Some, None, inl, inr, ℤ, refl, sym, ap, subst, ◌∙◌, arith, eq-eqb}
-use Rattle.std.specs.Prelude.{Contains, IfSome, slice_get, option_map, option_and_then, is_some, fold}
+use Rattle.std.proofs.Common.{◌≡◌, ℕ, zero, suc, ◌+◌, ◌<◌, true, false, List, [], ◌∷◌, length, map, get_or, All, Option, Some, None, inl, inr, ℤ, refl, sym, ap, subst, ◌∙◌, arith}
+use Rattle.std.specs.Prelude.{Contains, slice_get, option_map, option_and_then, is_some}
 use Rattle.std.specs.List.{flat_map, range_with_len}
 use Rattle.std.proofs.lemmas.Bool.{false≢true, cases_Bool}
 use Rattle.std.proofs.lemmas.List.Elements.{All-nil}
 use Rattle.std.proofs.lemmas.Option.{slice_get-map}
 use Rattle.hpf_syntax.specs.declared.tree.Spot.{Spot}
-use Rattle.hpf_syntax.specs.Plain.{Tree, FormatTree, Star, Block, Cyclic, GenBlock, Indirect, ItemTree, Distribute}
+use Rattle.hpf_syntax.specs.Plain.{FormatTree, Star, Block, Cyclic, GenBlock, Indirect, ItemTree, Distribute}
 use Rattle.hpf_map.specs.declared.name.Meaning.{Meaning}
 use Rattle.hpf_map.specs.declared.name.Meaning.TheVariants as meaning
 use Rattle.hpf_map.specs.declared.name.Name.{Name}
@@ -22,9 +22,7 @@ use Rattle.hpf_map.specs.Formats.{meaning_list, list_of, condition_breaches, for
 use Rattle.hpf_map.specs.Layers.{ordered_breaches, breaches_in}
 use Rattle.hpf_map.specs.Paired.{inner, at_place}
 use Rattle.hpf_map.specs.Shapes.{extent}
-use Rattle.hpf_map.specs.Spaces.{used_as}
 use Rattle.hpf_map.specs.Uses.{suits, format_name_breaches}
-use Rattle.hpf_map.specs.Values.{value, maybe_expression_breaches}
 use Rattle.hpf_map.specs.Widths.{format_width, statement_widths, all_widths}
 use Rattle.hpf_map.specs.Fit.{IsWhole, IsFree}
 use Rattle.hpf_map.proofs.ChoiceLemmas.{contains_here, contains_later}

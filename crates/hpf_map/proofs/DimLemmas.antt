@@ -1,5 +1,5 @@
 -- The dimensions of a base that is cut by formats, with the images of an array in them.
-use Rattle.std.proofs.Common.{◌≡◌, ◌==◌, ℕ, zero, suc, ◌+◌, ◌-◌, ◌*◌, ◌^◌, ◌<◌, ◌≤◌, Bool, true, false, List, [], ◌∷◌, length, map, get_or, All, Option, Some, None, inl, inr, ℤ, pos, ◌+ℤ◌, ◌*ℤ◌, ◌-ℤ◌, ◌≤ℤ◌, ◌<ℤ◌, unsigned_abs, arith, sym, ap, ◌∙◌, subst, refl, eq-eqb}
+use Rattle.std.proofs.Common.{◌≡◌, ℕ, zero, suc, ◌+◌, ◌-◌, ◌*◌, ◌^◌, ◌<◌, ◌≤◌, Bool, true, false, List, [], ◌∷◌, length, map, get_or, All, Option, Some, None, inl, inr, ℤ, pos, ◌+ℤ◌, ◌*ℤ◌, ◌-ℤ◌, ◌≤ℤ◌, ◌<ℤ◌, unsigned_abs, arith, sym, ap, ◌∙◌, subst, refl, eq-eqb}
 use Rattle.std.specs.Prelude.{slice_get}
 use Rattle.std.specs.List.{filter}
 use Rattle.std.proofs.lemmas.Bool.{cases_Bool, cases_lt, cond-true, cond-false, eqb-true, false≢true}
@@ -29,7 +29,7 @@ use Rattle.hpf_map.specs.Composed.{no_image, IsIn, Stays, AreImages, AreSound}
 use Rattle.hpf_map.specs.Cuts.{axis_of, IsMet, MeetsAll, MeetsOf, cut_with, cut_at}
 use Rattle.hpf_map.specs.Dealing.{Dealt, over, target_at, dealt_as, format_at}
 use Rattle.hpf_map.specs.Distributions.{divides, divided}
-use Rattle.hpf_map.specs.Formats.{format_of, list_of}
+use Rattle.hpf_map.specs.Formats.{format_of}
 use Rattle.hpf_map.specs.Mapped.{no_dim, cut_dim, AreCut, CanBeCut, CanBeMapped}
 use Rattle.hpf_map.specs.Paired.{at_place}
 use Rattle.hpf_map.specs.Shapes.{extent, max_extent}

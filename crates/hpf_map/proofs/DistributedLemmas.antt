@@ -1,7 +1,6 @@
 -- Where a text has no breach, what a statement distributes can be cut by its formats.
-use Rattle.std.proofs.Common.{◌≡◌, ◌==◌, ℕ, cond, List, [], length, All, Option, Some, None, refl, sym, ap, subst, ◌∙◌, eq-eqb}
-use Rattle.std.specs.Prelude.{slice_get, unwrap_or}
-use Rattle.std.specs.List.{flat_map}
+use Rattle.std.proofs.Common.{◌≡◌, ℕ, cond, List, [], length, All, Option, Some, refl, sym, ap, subst, ◌∙◌, eq-eqb}
+use Rattle.std.specs.Prelude.{unwrap_or}
 use Rattle.hpf_map.specs.declared.name.Name.{Name}
 use Rattle.hpf_map.specs.declared.name.Space.TheVariants.{Arrangement}
 use Rattle.hpf_map.specs.declared.name.Span.{Span}
@@ -13,7 +12,7 @@ use Rattle.hpf_map.specs.Dealing.{Dealt, matching, dealing, dealing_breaches, si
 use Rattle.hpf_map.specs.Distributions.{divided, target_shape, distributee_breaches, distribute_breaches}
 use Rattle.hpf_map.specs.Fit.{IsFree}
 use Rattle.hpf_map.specs.Layers.{names_of}
-use Rattle.hpf_map.specs.Mapped.{CanBeCut, IsDistributed}
+use Rattle.hpf_map.specs.Mapped.{IsDistributed}
 use Rattle.hpf_map.specs.Ownership.{dealing_of, dealing_by}
 use Rattle.hpf_map.specs.Paired.{at_place}
 use Rattle.hpf_map.specs.Spaces.{shape_of}

@@ -1,6 +1,6 @@
 -- Where no breach speaks of a format, what it asks for is met.
-use Rattle.std.proofs.Common.{◌≡◌, ◌==◌, ℕ, zero, suc, ◌+◌, ◌-◌, ◌*◌, ◌^◌, ◌<◌, ◌≤◌, Bool, true, false, not, ◌&&◌, ◌||◌, List, [], ◌∷◌, ◌++◌, length, map, get_or, All, Option, Some, None, ℤ, pos, negsuc, neg_ℤ, ◌+ℤ◌, ◌*ℤ◌, ◌-ℤ◌, ◌≤ℤ◌, unsigned_abs, refl, sym, ap, subst, ◌∙◌, arith, eq-eqb}
-use Rattle.std.specs.Prelude.{option_map, option_and_then, int_lt, int_le, nat_lt, is_some}
+use Rattle.std.proofs.Common.{◌≡◌, ◌==◌, ℕ, ◌-◌, ◌*◌, ◌^◌, ◌<◌, ◌≤◌, Bool, true, false, not, ◌&&◌, ◌||◌, List, [], ◌∷◌, ◌++◌, length, map, get_or, All, Option, Some, None, ℤ, pos, negsuc, neg_ℤ, ◌*ℤ◌, refl, sym, ap, ◌∙◌, arith, eq-eqb}
+use Rattle.std.specs.Prelude.{option_map, int_lt, int_le, nat_lt, is_some}
 use Rattle.std.specs.List.{list_any, sum}
 use Rattle.std.proofs.lemmas.Bool.{false≢true, eqb-true}
 use Rattle.std.proofs.lemmas.Bool.Decides.{nat_tests}
@@ -8,13 +8,11 @@ use Rattle.std.proofs.lemmas.Int.{ints}
 use Rattle.std.proofs.lemmas.List.{length-map}
 use Rattle.std.proofs.lemmas.List.Elements.{All-nil, All-cons, All-map}
 use Rattle.std.proofs.Math.IntN.{pos-*ℤ-pos}
-use Rattle.hpf_lex.specs.declared.refusal.MapRefusal.{MapRefusal}
 use Rattle.hpf_num.specs.Run.{or_zero}
 use Rattle.hpf_dist.specs.Axis.{before}
-use Rattle.hpf_dist.specs.Condition.{LengthsReach, AreOwners, Reaches}
 use Rattle.hpf_dist.specs.declared.format.Format.TheVariants as deals
 use Rattle.hpf_syntax.specs.declared.tree.At.{At}
-use Rattle.hpf_syntax.specs.Plain.{Tree, FormatTree, Star, Block, Cyclic, GenBlock, Indirect}
+use Rattle.hpf_syntax.specs.Plain.{FormatTree, Star, Block, Cyclic, GenBlock, Indirect}
 use Rattle.hpf_map.specs.declared.constraint.Constraint.TheVariants.{BlockTooSmall, WidthZero, LengthCount, NegativeLength, LengthSum, PlaceCount, PlaceValue}
 use Rattle.hpf_map.specs.declared.name.Name.{Name}
 use Rattle.hpf_map.specs.declared.name.Span.{Span}

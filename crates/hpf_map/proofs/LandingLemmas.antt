@@ -345,7 +345,7 @@ module _ (names : List Name) (ways : List Way) (direct : List (Option (List Imag
 
 -- ---- one landing after another
 
-get_inner : {A : Type 0} (o : Option (Option A)) (x : A) → Some x ≡ inner o → o ≡ Some (Some x)
+pub get_inner : {A : Type 0} (o : Option (Option A)) (x : A) → Some x ≡ inner o → o ≡ Some (Some x)
 get_inner None x e = absurd (let no : Some x ≡ None = e in cc)
 get_inner (Some o) x e = ap Some (sym e)
 
@@ -467,8 +467,4 @@ none_listed (suc n) (suc k) l is = none_listed n k l is
 -- a landing that is there is listed
 pub found_settled : (landings : List (Option Landing)) (n : ℕ) (found : Option Landing) → found ≡ inner (slice_get landings n) → is_some found ≡ true → IsSettled landings n
 found_settled landings n None e h = absurd (false≢true h)
-found_settled landings n (Some l) e h = (l, there (slice_get landings n) e) where
-  there : (o : Option (Option Landing)) → Some l ≡ inner o → o ≡ Some (Some l)
-  there None e = absurd (let no : Some l ≡ None = e in cc)
-  there (Some None) e = absurd (let no : Some l ≡ None = e in cc)
-  there (Some (Some m)) e = ap (λ x. Some x) (sym e)
+found_settled landings n (Some l) e h = (l, get_inner (slice_get landings n) l e)

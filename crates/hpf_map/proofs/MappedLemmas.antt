@@ -19,7 +19,7 @@ use Rattle.hpf_map.specs.declared.name.Space.TheVariants.{Array, Arrangement}
 use Rattle.hpf_map.specs.declared.name.Span.{Span}
 use Rattle.hpf_map.specs.Alignments.{no_span, Ordered}
 use Rattle.hpf_map.specs.Composed.{AreSound}
-use Rattle.hpf_map.specs.Shapes.{extent, elements, max_array, max_extent}
+use Rattle.hpf_map.specs.Shapes.{extent, elements, max_array}
 use Rattle.hpf_map.specs.Sound.{IsSoundSpan, IsSoundShape}
 use Rattle.hpf_map.specs.Spaces.{run_of}
 

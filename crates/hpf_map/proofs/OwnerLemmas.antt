@@ -1,6 +1,6 @@
 -- The owners that a mapping gives are those that the directives give.
 use Rattle.std.proofs.Common.{◌≡◌, ℕ, ◌<◌, Bool, true, false, ◌||◌, List, [], ◌∷◌, length, map, Some, inl, inr, ℤ, sym, ap, ◌∙◌, subst, refl}
-use Rattle.std.specs.Prelude.{Contains, ◌↔◌, IsTrue, slice_get}
+use Rattle.std.specs.Prelude.{Contains, ◌↔◌, IsTrue}
 use Rattle.std.specs.List.{list_any}
 use Rattle.std.proofs.lemmas.Bool.{or_left, or_right, false≢true}
 use Rattle.std.proofs.lemmas.List.{length-map}

@@ -301,11 +301,6 @@ lines_few need items nothing = few_lines (lines items) (others_empty _ _ (all_no
 
 -- ---- one name after another
 
-pub inner_some : {A : Type 0} (o : Option (Option A)) (x : A) → Some x ≡ inner o → o ≡ Some (Some x)
-inner_some None x e = absurd (let no : Some x ≡ None = e in cc)
-inner_some (Some None) x e = absurd (let no : Some x ≡ None = e in cc)
-inner_some (Some (Some y)) x e = ap (λ o. Some o) (sym e)
-
 push_old : {A : Type 0} (xs : List A) (x : A) (k : ℕ) → k < length xs → slice_get (xs ++ x ∷ []) k ≡ slice_get xs k
 push_old [] x k below = absurd (omega arith)
 push_old (y ∷ xs) x zero below = refl

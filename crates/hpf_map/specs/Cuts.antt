@@ -1,5 +1,5 @@
 -- How the dimensions of a distributee are cut.
-use Rattle.std.specs.Prelude.{ℕ, ◌<◌, List, length, Option, Some, None, slice_get, slice_index_or}
+use Rattle.std.specs.Prelude.{ℕ, List, Option, Some, None, slice_get, slice_index_or}
 use Rattle.hpf_dist.specs.Axis.{Divided}
 use Rattle.hpf_dist.specs.Condition.{HasSmallNumbers, Suits}
 use Rattle.hpf_dist.specs.declared.format.Format.{Format}

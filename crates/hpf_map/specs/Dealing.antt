@@ -1,5 +1,5 @@
 -- How a DISTRIBUTE deals the positions of its distributees, dimension by dimension.
-use Rattle.std.specs.Prelude.{ℕ, List, [], ◌++◌, length, take, Bool, ◌==◌, Option, Some, None, option_map, option_and_then, unwrap_or, if◌then◌else◌, slice_get, slice_index_or, ℤ}
+use Rattle.std.specs.Prelude.{ℕ, List, [], ◌++◌, length, take, ◌==◌, Option, Some, None, option_map, unwrap_or, if◌then◌else◌, slice_get, slice_index_or, ℤ}
 use Rattle.std.specs.List.{flat_map, range_with_len}
 use Rattle.hpf_lex.specs.declared.refusal.MapRefusal.{MapRefusal}
 use Rattle.hpf_dist.specs.declared.format.Format.{Format}

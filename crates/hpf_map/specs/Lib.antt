@@ -39,6 +39,8 @@ pub mod Direct
 pub mod Cuts
 pub mod Mapped
 pub mod Layers
+pub mod Checked
 pub mod Program
 pub mod Mappings
+pub mod Mapper
 pub mod Refusal

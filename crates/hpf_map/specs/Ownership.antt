@@ -1,6 +1,6 @@
 -- Who owns the elements of an array, one directive at a time (High Performance Fortran 2.0, Data Mapping, ALIGN and
 -- DISTRIBUTE). A name is its place among the declared ones, from 0, and a statement its place in the text, from 0.
-use Rattle.std.specs.Prelude.{ℕ, ◌≡◌, ◌<◌, List, [], ◌∷◌, map, Bool, true, false, ◌==◌, Option, Some, None, option_and_then, option_map, length, slice_get, slice_index_or, Contains, IsTrue, ◌↔◌, ℤ, pos}
+use Rattle.std.specs.Prelude.{ℕ, ◌≡◌, ◌<◌, List, [], map, Bool, true, false, ◌==◌, Option, Some, None, option_and_then, option_map, length, slice_get, slice_index_or, Contains, IsTrue, ◌↔◌, ℤ, pos}
 use Rattle.std.specs.List.{list_all, range_with_len}
 use Rattle.hpf_dist.specs.Axis.{before}
 use Rattle.hpf_dist.specs.Owner.{own}

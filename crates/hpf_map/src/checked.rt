@@ -1,17 +1,10 @@
 //! A mapping text that is checked, layer by layer.
 
-ghost use Rattle.std.specs.BTreeMap.{get};
-ghost use Rattle.std.specs.Ordering.{nat_cmp};
-ghost use Rattle.std.specs.Prelude.{◌≡◌, ℕ, map, IfOk, OnOk};
+ghost use Rattle.std.specs.Prelude.{◌≡◌, map, IfOk, OnOk};
 ghost use Rattle.hpf_syntax.specs.Plain.{item_tree};
+ghost use Rattle.hpf_map.specs.Checked.{IsChecked};
 ghost use Rattle.hpf_map.specs.Found.{least_with};
-ghost use Rattle.hpf_map.specs.Layers.{names_of};
 ghost use Rattle.hpf_map.specs.Refusal.{all_breaches};
-ghost use Rattle.hpf_map.specs.Shadows.{first_shadow};
-ghost use Rattle.hpf_map.specs.Subscripts.{all_subscripts};
-ghost use Rattle.hpf_map.specs.Ways.{ways_of};
-ghost use Rattle.hpf_map.specs.ShadowWidths.{all_shadow_widths};
-ghost use Rattle.hpf_map.specs.Widths.{all_widths};
 
 use crate::alignments::test_aligns;
 use crate::breaches::Breaches;
@@ -45,13 +38,7 @@ pub(crate) fn check_items(
     need: Need,
     breaches: &mut Breaches,
 ) -> Result<Checked, AllocError>
-    ensures names { IfOk result (λ c. c.statements.names ≡ names_of (map item_tree items.now)) }
-    ensures said { IfOk result (λ c. c.statements.said.items ≡ all_subscripts (map item_tree items.now)) }
-    ensures widths { IfOk result (λ c. c.statements.widths.items ≡ all_widths (map item_tree items.now)) }
-    ensures ways { IfOk result (λ c. c.ways ≡ ways_of (names_of (map item_tree items.now)) (map item_tree items.now)) }
-    ensures shadow_widths { IfOk result (λ c. c.statements.shadows.items ≡ all_shadow_widths (map item_tree items.now)) }
-    ensures shadows { IfOk result (λ c. (n : ℕ) → get nat_cmp c.first_shadows n
-        ≡ first_shadow (names_of (map item_tree items.now)) (map item_tree items.now) n) }
+    ensures checked { IfOk result (IsChecked (map item_tree items.now)) }
     ensures breaches { OnOk result (breaches.new ≡ least_with breaches.old
         (all_breaches need (map item_tree items.now))) }
 {

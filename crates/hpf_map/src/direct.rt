@@ -7,7 +7,7 @@ ghost use Rattle.hpf_map.specs.Alignments.{images_between};
 ghost use Rattle.hpf_map.specs.Direct.{images_along, direct_images};
 ghost use Rattle.hpf_map.specs.Landings.{name_shape};
 ghost use Rattle.hpf_map.specs.Ownership.{images_of, images_by};
-ghost use Rattle.hpf_map.specs.Paired.{inner, at_place};
+ghost use Rattle.hpf_map.specs.Paired.{inner};
 ghost use Rattle.hpf_map.specs.Sound.{AreSoundNames, AreGood};
 ghost use Rattle.hpf_map.specs.Subscripts.{all_subscripts};
 
@@ -15,6 +15,7 @@ use crate::alignments::{WHOLE, images, sources_agree, subscripts_agree, written}
 use crate::landings::{Images, name_shape};
 use crate::name::Span;
 use crate::names::Names;
+use crate::paired::at_place;
 use crate::subscript::Subscript;
 use crate::subscripts::Subscripts;
 use crate::way::Way;
@@ -75,16 +76,6 @@ fn images_of(
     images_between(alloc, sources, subs, said.as_slice(), array, base)
 }
 
-/// What the subscripts of the statement at this place say, where they are free.
-fn said_at(said: &[Option<Subscripts>], place: usize) -> Option<&Subscripts>
-    ensures { option_copied result ≡ at_place place said.now }
-{
-    match said.get(place) {
-        Some(Some(said)) => Some(said),
-        _ => None,
-    }
-}
-
 /// The shape of a name, where it is free.
 fn good_shape(names: &Names, n: usize) -> Option<&[Span]>
     requires { AreSoundNames names.now }
@@ -115,7 +106,7 @@ fn images_by(
     images_of(
         alloc,
         item,
-        said_at(said, statement),
+        at_place(said, statement),
         good_shape(names, array),
         good_shape(names, base),
     )

@@ -1,16 +1,16 @@
 //! Where the elements of each array lie in its ultimate base.
 
-ghost use Rattle.std.specs.Prelude.{◌≡◌, ◌<◌, ◌≤◌, ◌^◌, ℕ, List, [], ◌∷◌, length, map, IfOk, IfSome, IsSome, OnOk, OnErr, Option, Some, None, replicate, option_and_then, slice_get, slice_set, option_copied, true, false};
+ghost use Rattle.std.specs.Prelude.{◌≡◌, ◌<◌, ◌≤◌, ◌^◌, ℕ, List, [], ◌∷◌, length, map, IfOk, IfSome, IsSome, OnOk, OnErr, Option, Some, None, replicate, option_and_then, slice_set, option_copied, true, false};
 ghost use Rattle.hpf_own.specs.declared.image.Image.{Image};
 ghost use Rattle.hpf_map.specs.Composed.{AreSound, AreAligned, AreImages, ArePlain, composed};
 ghost use Rattle.hpf_map.specs.Landings.{IsItself, AreThemselves, CanGoOn, ComesOf, name_shape, AlignedAt, AreClear, AreLandings, IsSettled, StaysSettled, Lands, CanLand};
-ghost use Rattle.hpf_map.specs.Paired.{inner};
 ghost use Rattle.hpf_map.specs.Ways.{way_at, walk, walk_end, leads_on};
 ghost use Rattle.hpf_map.specs.declared.way.Way.TheVariants.{Distributed};
 
 use crate::compose::all_composed;
 use crate::name::Span;
 use crate::names::Names;
+use crate::paired::at_place;
 use crate::plain::all_plain;
 use crate::spaces::meaning_shape;
 use crate::way::Way;
@@ -160,35 +160,15 @@ fn landed(
             base: Some(base),
             ..
         } => {
-            let Some(images) = listed(direct, n) else {
+            let Some(images) = at_place(direct, n) else {
                 return Ok(None);
             };
-            let Some(landing) = listed_landing(landings, base) else {
+            let Some(landing) = at_place(landings, base) else {
                 return Ok(None);
             };
             Ok(Some(onward(alloc, array, images, landing)?))
         }
         Way::Aligned { .. } | Way::Unmapped => Ok(None),
-    }
-}
-
-/// The landing of a name, where it is listed.
-pub(crate) fn listed_landing(landings: &[Option<Landing>], n: usize) -> Option<&Landing>
-    ensures { option_copied result ≡ inner (slice_get landings.now n) }
-{
-    match landings.get(n) {
-        Some(Some(landing)) => Some(landing),
-        _ => None,
-    }
-}
-
-/// The images of a name in its base, where they are listed.
-fn listed(direct: &[Option<Images>], n: usize) -> Option<&Images>
-    ensures { option_copied result ≡ inner (slice_get direct.now n) }
-{
-    match direct.get(n) {
-        Some(Some(images)) => Some(images),
-        _ => None,
     }
 }
 
@@ -235,7 +215,7 @@ fn settle(
     ensures kept { OnOk result (StaysSettled landings.old.items landings.new.items) }
     ensures settled { OnOk result ((k : ℕ) → way_at ways.now (walk ways.now steps n) ≡ Distributed k → IsSettled landings.new.items n) }
 {
-    if listed_landing(landings.as_slice(), n).is_some() {
+    if at_place(landings.as_slice(), n).is_some() {
         return Ok(());
     }
     match ways.way(n) {

@@ -5,6 +5,7 @@ ghost use Rattle.hpf_map.specs.Paired.{at_place};
 ghost use Rattle.hpf_map.specs.Program.{mapping_in};
 
 use crate::names::Names;
+use crate::paired::at_place;
 use hpf_lex::Word;
 use hpf_own::Mapping;
 use std::marker::Model;
@@ -105,7 +106,7 @@ impl Program {
         ensures { option_copied result ≡ mapping_in self.now array.now }
     {
         match self.names.place(array) {
-            Some(n) => mapping_at(self.mappings.as_slice(), n),
+            Some(n) => at_place(self.mappings.as_slice(), n),
             None => None,
         }
     }
@@ -125,16 +126,6 @@ impl Program {
         ensures { result ≡ self.now.counts }
     {
         self.counts
-    }
-}
-
-/// The mapping that is listed at a place.
-fn mapping_at(mappings: &[Option<Mapping>], n: usize) -> Option<&Mapping>
-    ensures { option_copied result ≡ at_place n mappings.now }
-{
-    match mappings.get(n) {
-        Some(Some(mapping)) => Some(mapping),
-        _ => None,
     }
 }
 

@@ -1,19 +1,12 @@
 //! What a mapping text means, or why it is refused.
 
-ghost use Rattle.std.specs.BTreeMap.{get};
-ghost use Rattle.std.specs.Ordering.{nat_cmp};
-ghost use Rattle.std.specs.Prelude.{◌≡◌, ℕ, [], map, IfOk};
+ghost use Rattle.std.specs.Prelude.{◌≡◌, [], map, IfOk};
 ghost use Rattle.hpf_syntax.specs.Plain.{item_tree};
 ghost use Rattle.hpf_map.specs.Built.{not_built};
-ghost use Rattle.hpf_map.specs.Layers.{names_of};
+ghost use Rattle.hpf_map.specs.Checked.{IsChecked};
 ghost use Rattle.hpf_map.specs.Mappings.{CanMapAll};
 ghost use Rattle.hpf_map.specs.Program.{IsProgram};
 ghost use Rattle.hpf_map.specs.Refusal.{all_breaches, Resolves};
-ghost use Rattle.hpf_map.specs.Shadows.{first_shadow};
-ghost use Rattle.hpf_map.specs.Subscripts.{all_subscripts};
-ghost use Rattle.hpf_map.specs.Ways.{ways_of};
-ghost use Rattle.hpf_map.specs.ShadowWidths.{all_shadow_widths};
-ghost use Rattle.hpf_map.specs.Widths.{all_widths};
 
 use crate::breaches::Breaches;
 use crate::built::are_built;
@@ -21,7 +14,7 @@ use crate::checked::{Checked, check_items};
 use crate::counts::counts;
 use crate::direct::direct_images;
 use crate::landings::{Landing, all_landings};
-use crate::mappings::{all_mappings, all_stages};
+use crate::mappings::Mapper;
 use crate::pipeline::lines;
 use crate::program::{Need, Program};
 use crate::shadows::Shadows;
@@ -48,9 +41,7 @@ fn landings_of(
     checked: &Checked,
 ) -> Result<Vec<Option<Landing>>, AllocError>
     requires none { all_breaches need (map item_tree items.now) ≡ [] }
-    requires names { checked.now.statements.names ≡ names_of (map item_tree items.now) }
-    requires said { checked.now.statements.said.items ≡ all_subscripts (map item_tree items.now) }
-    requires ways { checked.now.ways ≡ ways_of (names_of (map item_tree items.now)) (map item_tree items.now) }
+    requires checked { IsChecked (map item_tree items.now) checked.now }
     ensures { IfOk result (λ landings. CanMapAll (map item_tree items.now) landings.items) }
 {
     let names = &checked.statements.names;
@@ -67,13 +58,7 @@ fn program_of(
     checked: Checked,
 ) -> Result<Program, AllocError>
     requires none { all_breaches need (map item_tree items.now) ≡ [] }
-    requires names { checked.statements.names ≡ names_of (map item_tree items.now) }
-    requires said { checked.statements.said.items ≡ all_subscripts (map item_tree items.now) }
-    requires widths { checked.statements.widths.items ≡ all_widths (map item_tree items.now) }
-    requires ways { checked.ways ≡ ways_of (names_of (map item_tree items.now)) (map item_tree items.now) }
-    requires shadow_widths { checked.statements.shadows.items ≡ all_shadow_widths (map item_tree items.now) }
-    requires shadows { (n : ℕ) → get nat_cmp checked.first_shadows n
-        ≡ first_shadow (names_of (map item_tree items.now)) (map item_tree items.now) n }
+    requires checked { IsChecked (map item_tree items.now) checked }
     ensures { IfOk result (λ program. IsProgram (map item_tree items.now) program) }
 {
     let landings = landings_of(alloc, items, need, &checked)?;
@@ -83,19 +68,16 @@ fn program_of(
         widths: statements.shadows,
         first: checked.first_shadows,
     };
-    let widths = statements.widths.as_slice();
-    let landings = landings.as_slice();
-    let mappings = all_mappings(alloc, &names, items, widths, landings, &shadows)?;
-    let lines = lines(alloc, items)?;
-    let stages = all_stages(
-        alloc,
-        &names,
+    let mapper = Mapper {
+        names: &names,
         items,
-        widths,
-        landings,
-        &shadows,
-        lines.as_slice(),
-    )?;
+        widths: statements.widths.as_slice(),
+        landings: landings.as_slice(),
+        shadows: &shadows,
+    };
+    let mappings = mapper.all_mappings(alloc)?;
+    let lines = lines(alloc, items)?;
+    let stages = mapper.all_stages(alloc, lines.as_slice())?;
     let counts = counts(alloc, &names, items)?;
     Ok(Program::new(names, mappings, stages, counts))
 }

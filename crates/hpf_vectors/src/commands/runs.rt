@@ -91,6 +91,20 @@ input = 48504646 01 01 04 00 00010000
 65536 * = 00000001
 = 00 00000001
 
+row a frame of several pieces
+words hpfturn run M
+for S 7 1000 4096
+file M
+| INTEGER A(5000)
+| !HPF$ PROCESSORS P(3)
+| !HPF$ DISTRIBUTE A(BLOCK) ONTO P
+| !PIPE$ INPUT A
+input = 48504646 01 01 04 00 00001388
+= 01 00000000
+625 * = 80000000 7fffffff 00000000 ffffffff 00000001 01020304 fefdfcfb 00ff00ff
+= 00 00000001
+step S
+
 # Inputs that are refused
 
 row an empty input
@@ -121,6 +135,14 @@ input @ F3 29
 = 01 00000000 00000001 00000002 00000003
 step S
 
+row the number 2 behind number 0
+words hpfturn run M
+for S 1 2 3 7 40
+file M @ M13
+input @ F3 29
+= 01 00000002 00000001 00000002 00000003
+step S
+
 row the number 1 at first
 words hpfturn run M
 for S 1 2 3 7 40
@@ -138,6 +160,14 @@ input @ F3 29
 = 00 00000000
 step S
 
+row an end that counts a frame too many
+words hpfturn run M
+for S 1 2 3 7 40
+file M @ M13
+input @ F3 29
+= 00 00000002
+step S
+
 row the mark 2
 words hpfturn run M
 for S 1 2 3 7 40
@@ -145,6 +175,14 @@ file M @ M13
 input @ H3
 = 02 00000000 00000001 00000002 00000003
 = 00 00000001
+step S
+
+row the mark 255 behind a frame
+words hpfturn run M
+for S 1 2 3 7 40
+file M @ M13
+input @ F3 29
+= ff 00000001 00000001 00000002 00000003
 step S
 
 row the extent 4
@@ -168,6 +206,38 @@ words hpfturn run M
 for S 1 2 3 7 40
 file M @ M13
 input = 68504646 01 01 04 00 00000003
+= 00 00000000
+step S
+
+row version 2
+words hpfturn run M
+for S 1 2 3 7 40
+file M @ M13
+input = 48504646 02 01 04 00 00000003
+= 00 00000000
+step S
+
+row another rank
+words hpfturn run M
+for S 1 2 3 7 40
+file M @ M13
+input = 48504646 01 02 04 00 00000003
+= 00 00000000
+step S
+
+row elements of 8 bytes
+words hpfturn run M
+for S 1 2 3 7 40
+file M @ M13
+input = 48504646 01 01 08 00 00000003
+= 00 00000000
+step S
+
+row another byte behind the width
+words hpfturn run M
+for S 1 2 3 7 40
+file M @ M13
+input = 48504646 01 01 04 01 00000003
 = 00 00000000
 step S
 

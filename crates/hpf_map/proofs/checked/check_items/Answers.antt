@@ -10,7 +10,7 @@ use Rattle.hpf_map.specs.Layers.{names_of}
 use Rattle.hpf_map.specs.Paired.{each_with}
 use Rattle.hpf_map.specs.Pipeline.{pipeline_breaches}
 use Rattle.hpf_map.specs.Refusal.{all_breaches}
-use Rattle.hpf_map.specs.Shadows.{shadows_breaches}
+use Rattle.hpf_map.specs.Shadows.{shadows_breaches, first_shadow}
 use Rattle.hpf_map.specs.Ways.{ways_of, mapped_twice_breaches, first_uses, cycle_breaches}
 use Rattle.hpf_map.proofs.FoundLemmas.{least_with-append}
 use Rattle.hpf_map.proofs.checked.check_items.Goals as goal
@@ -18,6 +18,18 @@ use Rattle.hpf_map.proofs.checked.check_items.Goals as goal
 -- one layer more, whose breaches are these
 taken : (h0 h1 h2 : Option MapRefusal) (xs ys zs : List MapRefusal) → h1 ≡ least_with h0 xs → h2 ≡ least_with h1 ys → ys ≡ zs → h2 ≡ least_with h0 (xs ++ zs)
 taken h0 h1 h2 xs ys zs before step same = step ∙ ap (least_with h1) same ∙ ap (λ h. least_with h zs) before ∙ least_with-append h0 xs zs
+
+pub returns-clause-checked : goal.returns-clause-checked
+returns-clause-checked c =
+    let items = map item_tree c.args.items.now in
+    let s = c.in_ok-statements.ensures in record {
+      names = s.names;
+      said = s.said;
+      widths = s.widths;
+      shadow_widths = s.shadows;
+      ways = c.in_ok-mapped.ensures.ways ∙ ap (λ ns. ways_of ns items) s.names;
+      first_shadows = λ n. c.in_ok-first_shadows.ensures.first n ∙ ap (λ ns. first_shadow ns items n) s.names;
+    }
 
 pub returns-clause-breaches : goal.returns-clause-breaches
 unfolding all_breaches

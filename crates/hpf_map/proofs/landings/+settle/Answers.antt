@@ -9,8 +9,8 @@ use Rattle.hpf_map.proofs.landings.+settle.Goals as goal
 
 pub returns-then-is_some-clause-settled : goal.returns-then-is_some-clause-settled
 returns-then-is_some-clause-settled t c k ends =
-    let there = c.listed_landing.ensures ∙ ap (λ l. inner (slice_get l c.args.n)) c.as_slice.ensures.value in
-    found_settled c.args.landings.now.items c.args.n _ there (is_some_copied c.listed_landing.result _ c.is_some.result refl c.is_some.ensures ∙ c.if-is_some.true)
+    let there = c.at_place.ensures ∙ ap (λ l. inner (slice_get l c.args.n)) c.as_slice.ensures.value in
+    found_settled c.args.landings.now.items c.args.n _ there (is_some_copied c.at_place.result _ c.is_some.result refl c.is_some.ensures ∙ c.if-is_some.true)
 
 pub returns-then-steps-eq0-clause-settled : goal.returns-then-steps-eq0-clause-settled
 returns-then-steps-eq0-clause-settled t c =

@@ -13,11 +13,11 @@ returns-in_ok-here-in-Distributed-clause-lands c =
 
 pub onward-requires : goal.onward-requires
 onward-requires c =
-    onward_asked c.args.names.now c.args.ways.now c.args.direct.now c.args.landings.now c.args.n _ _ _ _ _ c.in-Some-listed_landing.landing.now c.requires.clear c.requires.listed
-    c.in-Some.ensures c.in-Aligned-default-Some.ensures c.in-Aligned-default-Some.base-is c.in-Some-listed.ensures c.in-Some-listed_landing.ensures
+    onward_asked c.args.names.now c.args.ways.now c.args.direct.now c.args.landings.now c.args.n _ _ _ _ _ c.in-Some-at_place-2.landing.now c.requires.clear c.requires.listed
+    c.in-Some.ensures c.in-Aligned-default-Some.ensures c.in-Aligned-default-Some.base-is c.in-Some-at_place.ensures c.in-Some-at_place-2.ensures
 
 pub returns-in_ok-onward-in-Aligned-default-Some-clause-lands : goal.returns-in_ok-onward-in-Aligned-default-Some-clause-lands
 returns-in_ok-onward-in-Aligned-default-Some-clause-lands c =
     let o = c.in_ok-onward-in-Aligned-default-Some.ensures in
-    onward_lands c.args.names.now c.args.ways.now c.args.direct.now c.args.landings.now c.args.n _ _ _ _ _ c.in-Some-listed_landing.landing.now _ _ _ c.requires.listed
-    c.in-Some.ensures c.in-Aligned-default-Some.ensures c.in-Aligned-default-Some.base-is c.in-Some-listed.ensures c.in-Some-listed_landing.ensures o.base o.statement o.images
+    onward_lands c.args.names.now c.args.ways.now c.args.direct.now c.args.landings.now c.args.n _ _ _ _ _ c.in-Some-at_place-2.landing.now _ _ _ c.requires.listed
+    c.in-Some.ensures c.in-Aligned-default-Some.ensures c.in-Aligned-default-Some.base-is c.in-Some-at_place.ensures c.in-Some-at_place-2.ensures o.base o.statement o.images

@@ -1,4 +1,4 @@
-use Rattle.std.proofs.Common.{sym, ap, subst, ◌∙◌, w32}
+use Rattle.std.proofs.Common.{ap, subst, ◌∙◌, w32}
 use Rattle.std.specs.Int.{int_min, int_max}
 use Rattle.std.proofs.lemmas.Int.{to_z-of_z}
 use Rattle.hpf_map.specs.Ranges.{HasRange}

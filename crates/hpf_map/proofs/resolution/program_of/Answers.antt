@@ -1,22 +1,49 @@
-use Rattle.std.proofs.Common.{All, length, map, sym, ap, subst, ◌∙◌, arith}
+use Rattle.std.proofs.Common.{◌≡◌, [], All, length, map, refl, sym, ap, subst, ◌∙◌, arith}
+use Rattle.std.specs.BTreeMap.{get}
+use Rattle.std.specs.Ordering.{nat_cmp}
 use Rattle.std.specs.List.{AllZip}
 use Rattle.hpf_syntax.specs.Plain.{item_tree}
-use Rattle.hpf_map.specs.Mappings.{IsMappedLine, IsStageOf}
+use Rattle.hpf_map.specs.declared.checked.Checked.{Checked}
+use Rattle.hpf_map.specs.declared.mappings.Mapper.{Mapper}
+use Rattle.hpf_map.specs.declared.program.Need.{Need}
+use Rattle.hpf_map.specs.Checked.{IsChecked}
+use Rattle.hpf_map.specs.Mapper.{IsMapper}
+use Rattle.hpf_map.specs.Mappings.{CanMapAll, IsMappedLine, IsStageOf}
 use Rattle.hpf_map.specs.Program.{IsProgram}
+use Rattle.hpf_map.specs.Refusal.{all_breaches}
 use Rattle.hpf_map.proofs.ResolveLemmas.{lines_mapped, lines_few, zip_long, program_is}
 use Rattle.hpf_map.proofs.ShadedLemmas.{shadows_are}
 use Rattle.hpf_map.proofs.resolution.program_of.Goals as goal
 
+-- what mappings are made of, where it is all that is found of a text without a breach
+mapper_is : (need : Need) (m : Mapper) (found : Checked) → all_breaches need (map item_tree m.items.now) ≡ [] → IsChecked (map item_tree m.items.now) found
+    → m.names.now ≡ found.statements.names → m.widths.now ≡ found.statements.widths.items → m.shadows.now.widths ≡ found.statements.shadows
+    → m.shadows.now.first ≡ found.first_shadows → CanMapAll (map item_tree m.items.now) m.landings.now → IsMapper m
+mapper_is need m found none checked names widths given first can = record {
+  names = names ∙ checked.names;
+  widths = widths ∙ checked.widths;
+  can = can;
+  shadows = shadows_are need (map item_tree m.items.now) _ _ none (ap (λ v. v.items) given ∙ checked.shadow_widths) (λ n. ap (λ f. get nat_cmp f n) first ∙ checked.first_shadows n);
+}
+
+pub all_mappings-requires : goal.all_mappings-requires
+all_mappings-requires c =
+    record { ready = mapper_is c.args.need _ c.args.checked c.requires.none c.requires.checked refl c.as_slice.ensures.value refl refl (subst (CanMapAll (map item_tree c.args.items.now)) (sym c.as_slice-2.ensures.value) c.in_ok-landings.ensures) }
+
+pub all_stages-requires-clause-ready : goal.all_stages-requires-clause-ready
+all_stages-requires-clause-ready c =
+    mapper_is c.args.need _ c.args.checked c.requires.none c.requires.checked refl c.as_slice.ensures.value refl refl (subst (CanMapAll (map item_tree c.args.items.now)) (sym c.as_slice-2.ensures.value) c.in_ok-landings.ensures)
+
 pub all_stages-requires-clause-mapped : goal.all_stages-requires-clause-mapped
 all_stages-requires-clause-mapped c =
     let items = map item_tree c.args.items.now in
-    subst (All (IsMappedLine items)) (sym (c.as_slice.ensures.value ∙ c.in_ok-lines.ensures)) (lines_mapped c.args.need items c.requires.none)
+    subst (All (IsMappedLine items)) (sym (c.as_slice-3.ensures.value ∙ c.in_ok-lines.ensures)) (lines_mapped c.args.need items c.requires.none)
 
 pub new-requires : goal.new-requires
 new-requires c =
     let items = map item_tree c.args.items.now in
-    let long = zip_long (IsStageOf items) c.as_slice.result.now c.in_ok-stages.stages.items c.in_ok-stages.ensures in
-    let lines = ap length (c.as_slice.ensures.value ∙ c.in_ok-lines.ensures) in
+    let long = zip_long (IsStageOf items) c.as_slice-3.result.now c.in_ok-stages.stages.items c.in_ok-stages.ensures in
+    let lines = ap length (c.as_slice-3.ensures.value ∙ c.in_ok-lines.ensures) in
     let few = lines_few c.args.need items c.requires.none in
     record { few = omega (arith, long, lines, few) }
 
@@ -24,12 +51,6 @@ pub returns : goal.returns
 returns c =
     let items = map item_tree c.args.items.now in
     subst (IsProgram items) (sym c.new.ensures)
-    (program_is items _ _ _ _ c.requires.names c.in_ok-mappings.ensures
-    (subst (λ lines. AllZip (IsStageOf items) lines c.in_ok-stages.stages.items) (c.as_slice.ensures.value ∙ c.in_ok-lines.ensures) c.in_ok-stages.ensures)
+    (program_is items _ _ _ _ c.requires.checked.names c.in_ok-mappings.ensures
+    (subst (λ lines. AllZip (IsStageOf items) lines c.in_ok-stages.stages.items) (c.as_slice-3.ensures.value ∙ c.in_ok-lines.ensures) c.in_ok-stages.ensures)
     c.in_ok-counts.ensures)
-
-pub all_mappings-requires-clause-shadows : goal.all_mappings-requires-clause-shadows
-all_mappings-requires-clause-shadows c = shadows_are c.args.need (map item_tree c.args.items.now) _ _ c.requires.none c.requires.shadow_widths c.requires.shadows
-
-pub all_stages-requires-clause-shadows : goal.all_stages-requires-clause-shadows
-all_stages-requires-clause-shadows c = shadows_are c.args.need (map item_tree c.args.items.now) _ _ c.requires.none c.requires.shadow_widths c.requires.shadows
