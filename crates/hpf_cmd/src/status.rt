@@ -22,7 +22,8 @@ const USAGE: &str =
 pub enum Status {
     /// All was done.
     Ok,
-    /// The words ask for nothing that the program does (1), or for what isn't built (9).
+    /// The words ask for nothing that the program does (1), or for what isn't built (9); the text maps no array by that name
+    /// (2), or the array has no such processor (3).
     Usage { code: u8 },
     /// The mapping text is refused at this place, whose line and column count from 1.
     MapRefused { code: u8, line: u32, column: u32 },
