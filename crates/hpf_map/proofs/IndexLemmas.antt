@@ -92,7 +92,7 @@ place_behind p k y xs x false later =
     later ∙ ap (λ n. option_or (position_from p (k + 1) xs) (cond (p x) (Some n) None)) z
 
 -- one more element, at the end
-position_push : {A : Type 0} (p : A → Bool) (k : ℕ) (xs : List A) (x : A)
+pub position_push : {A : Type 0} (p : A → Bool) (k : ℕ) (xs : List A) (x : A)
     → position_from p k (xs ++ x ∷ []) ≡ option_or (position_from p k xs) (cond (p x) (Some (k + length xs)) None)
 position_push p k [] x = let z : k ≡ k + 0 = omega arith in ap (λ n. cond (p x) (Some n) None) z
 position_push p k (y ∷ xs) x = place_behind p k y xs x (p y) (position_push p (k + 1) xs x)

@@ -9,6 +9,7 @@ pub mod GatherLemmas
 pub mod SoundLemmas
 pub mod DeclareLemmas
 pub mod PairedLemmas
+pub mod ArrangementLemmas
 pub mod Rows
 pub mod ChoiceLemmas
 pub mod ThroughLemmas

@@ -19,6 +19,7 @@ pub mod ShadowWidths
 pub mod Spaces
 pub mod Alignments
 pub mod Distributions
+pub mod Arrangements
 pub mod Widths
 pub mod Formats
 pub mod Dealing

@@ -1,14 +1,14 @@
 //! DISTRIBUTE and the arrangement that it distributes onto.
 
-ghost use Rattle.std.specs.Prelude.{◌≡◌, ◌||◌, not, map, length, option_copied};
-ghost use Rattle.std.specs.List.{flat_map, list_any, find};
+ghost use Rattle.std.specs.Prelude.{◌≡◌, map, length, option_copied};
+ghost use Rattle.std.specs.List.{flat_map};
 ghost use Rattle.hpf_syntax.specs.Plain.{format_tree, item_tree};
-ghost use Rattle.hpf_map.specs.Distributions.{divides, divided, is_arrangement, fits, is_broken, target, target_shape, nothing_fits, first_breach, target_breaches, distributee_breaches, distribute_breaches};
+ghost use Rattle.hpf_map.specs.Distributions.{divides, divided, target, target_shape, nothing_fits, first_breach, target_breaches, distributee_breaches, distribute_breaches};
 ghost use Rattle.hpf_map.specs.Found.{least_with};
 
 use crate::breaches::Breaches;
 use crate::constraint::Constraint;
-use crate::name::{Meaning, Name, Shape, Space};
+use crate::name::{Name, Shape};
 use crate::names::Names;
 use crate::role::Role;
 use crate::spaces::{meaning_shape, shape_of, test_count, used_as};
@@ -40,56 +40,6 @@ pub(crate) fn divided(formats: &[FormatItem]) -> usize
     count
 }
 
-/// Whether a meaning is that of an arrangement.
-fn is_arrangement(meaning: &Meaning) -> bool
-    ensures { result ≡ is_arrangement meaning.now }
-{
-    matches!(meaning, Meaning::Shaped(Space::Arrangement, _))
-}
-
-/// Whether a name is an arrangement of which so many bounds are written.
-pub(crate) fn fits(count: usize, name: &Name) -> bool
-    ensures { result ≡ fits count name.now }
-{
-    match &name.meaning {
-        Meaning::Shaped(Space::Arrangement, dimensions) => dimensions.count == count,
-        _ => false,
-    }
-}
-
-/// Whether a name is an arrangement that has a breach.
-fn is_broken(name: &Name) -> bool
-    ensures { result ≡ is_broken name.now }
-{
-    is_arrangement(&name.meaning) && !(name.free && meaning_shape(&name.meaning).is_some())
-}
-
-/// Whether a name is an arrangement of which so many bounds are written, or one that has a breach.
-fn may_fit(count: usize, name: &Name) -> bool
-    ensures { result ≡ (is_broken name.now || fits count name.now) }
-{
-    is_broken(name) || fits(count, name)
-}
-
-/// Whether some of these may fit.
-fn some_may_fit(count: usize, names: &[Name]) -> bool
-    ensures { result ≡ list_any (λ n. is_broken n || fits count n) names.now }
-{
-    for name in names {
-        if may_fit(count, name) {
-            return true;
-        }
-    }
-    false
-}
-
-/// The first of these that is an arrangement of which so many bounds are written.
-fn first_that_fits(count: usize, names: &[Name]) -> Option<&Name>
-    ensures { option_copied result ≡ find (fits count) names.now }
-{
-    names.iter().find(|name| fits(count, name))
-}
-
 /// The arrangement that is distributed onto: that of ONTO, or else the first one that fits.
 #[tactic(auto, unfolding(crate::specs::Distributions::target))]
 fn target<'a>(names: &'a Names, formats: &[FormatItem], onto: &Option<Spot>) -> Option<&'a Name>
@@ -97,7 +47,7 @@ fn target<'a>(names: &'a Names, formats: &[FormatItem], onto: &Option<Spot>) -> 
 {
     match onto {
         Some(onto) => used_as(names, Role::Target, &onto.word),
-        None => first_that_fits(divided(formats), names.as_slice()),
+        None => names.first_arrangement(divided(formats)),
     }
 }
 
@@ -119,7 +69,13 @@ pub(crate) fn target_shape<'a>(
 fn nothing_fits(names: &Names, formats: &[FormatItem]) -> bool
     ensures { result ≡ nothing_fits names.now (map format_tree formats.now) }
 {
-    !some_may_fit(divided(formats), names.as_slice())
+    if names.has_broken_arrangement() {
+        return false;
+    }
+    match names.first_arrangement(divided(formats)) {
+        Some(_) => false,
+        None => true,
+    }
 }
 
 /// The rank of the arrangement in ONTO, or that there is none that fits.

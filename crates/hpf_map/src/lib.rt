@@ -7,8 +7,8 @@
 //!   - `statements`: names and what they are (`declare`, `constants`, `shapes`, `values`), and what the subscripts of each ALIGN
 //!     and the widths of each DISTRIBUTE and SHADOW say (`directives`, `subscripts`, `linear`, `dummy_places`, `format_widths`,
 //!     `shadow_widths`).
-//!   - `alignments` and `distributions`: directives, each by itself; `dealing` and `formats`: what each format of a DISTRIBUTE
-//!     asks for; `ways` and `cycles`: how each name is mapped, and chains.
+//!   - `alignments` and `distributions` (`arrangements`): directives, each by itself; `dealing` and `formats`: what each format
+//!     of a DISTRIBUTE asks for; `ways` and `cycles`: how each name is mapped, and chains.
 //!   - `pipeline`: the lines of a pipeline; `shadows`: names in SHADOW, and the first one of each array.
 //! - `direct`: the images of each array in its base; `landings`: those in its ultimate base, composed once an array
 //!   (`plain`, `compose`).
@@ -19,6 +19,7 @@
 
 mod alignments;
 mod arithmetic;
+mod arrangements;
 mod breaches;
 mod built;
 mod checked;

@@ -1,9 +1,11 @@
 //! The names that are declared.
 
 ghost use Rattle.std.specs.Prelude.{◌≡◌, [], ◌∷◌, ◌++◌, length, OnOk, option_copied};
-ghost use Rattle.std.specs.List.{position_from};
+ghost use Rattle.std.specs.List.{find, list_any, position_from};
+ghost use Rattle.hpf_map.specs.Distributions.{fits, is_broken};
 ghost use Rattle.hpf_map.specs.Known.{is_named, known, declare, is_full};
 
+use crate::arrangements::{Arrangements, COUNTS, fits};
 use crate::name::Name;
 use hpf_lex::Word;
 use std::alloc::{AllocError, Global};
@@ -20,6 +22,7 @@ pub struct Names {
     names: Vec<Name>,
     /// The place of each word among them.
     places: BTreeMap<Word, usize>,
+    arrangements: Arrangements,
 }
 
 impl Model for Names {
@@ -28,11 +31,12 @@ impl Model for Names {
 
     ghost Value = { List Name };
 
+    ghost use Rattle.hpf_map.specs.Arrangements.{AreOf};
     ghost use Rattle.hpf_map.specs.Index.{HasPlaces};
 
     ghost view = { λ n. n.names.items };
 
-    ghost invariant = { λ n. HasPlaces n.names.items n.places };
+    ghost invariant = { λ n. HasPlaces n.names.items n.places × AreOf n.names.items n.arrangements };
 }
 
 impl Names {
@@ -43,6 +47,7 @@ impl Names {
         Names {
             names: Vec::new(alloc),
             places: BTreeMap::new(alloc),
+            arrangements: Arrangements::none(),
         }
     }
 
@@ -73,6 +78,26 @@ impl Names {
         }
     }
 
+    /// The first arrangement of which so many bounds are written.
+    pub(crate) fn first_arrangement(&self, count: usize) -> Option<&Name>
+        ensures { option_copied result ≡ find (fits count) self.now }
+    {
+        if count >= COUNTS {
+            return self.names.iter().find(|name| fits(count, name));
+        }
+        match self.arrangements.first[count] {
+            Some(place) => Some(&self.names[place]),
+            None => None,
+        }
+    }
+
+    /// Whether some arrangement has a breach.
+    pub(crate) fn has_broken_arrangement(&self) -> bool
+        ensures { result ≡ list_any is_broken self.now }
+    {
+        self.arrangements.broken
+    }
+
     /// Whether the next name is the first that is too many.
     pub(crate) fn is_full(&self) -> bool
         ensures { result ≡ is_full self.now }
@@ -89,9 +114,14 @@ impl Names {
         }
         let word = name.word;
         let place = self.names.len();
+        let mut arrangements = self.arrangements;
+        arrangements.add(&name, place);
         self.names.push(name)?;
         match self.places.insert(word, place) {
-            Ok(_) => Ok(()),
+            Ok(_) => {
+                self.arrangements = arrangements;
+                Ok(())
+            }
             Err(_) => {
                 self.names.pop();
                 Err(AllocError)

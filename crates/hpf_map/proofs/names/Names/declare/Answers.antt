@@ -13,7 +13,7 @@ invariant_of-self-in-Ok c =
     let free_inside : known c.self.inside.names.items c.args.name.word ≡ None = ap (λ ns. known ns c.args.name.word) c.self.view_is ∙ free in
     let place : c.len-place.result ≡ length c.self.inside.names.items = omega (arith, c.len-place.ensures, c.self.inside.names.ok.0) in
     let updates = rw place at c.in-Ok.ensures.updates in
-    rw c.in_ok-push.ensures.items (HasPlaces-push c.self.inside.names.items c.args.name c.self.inside.places c.insert.new.self c.self.invariant free_inside updates)
+    rw c.in_ok-push.ensures.items (HasPlaces-push c.self.inside.names.items c.args.name c.self.inside.places c.insert.new.self c.self.invariant.0 free_inside updates, c.add.ensures c.self.inside.names.items place c.self.invariant.1)
 
 pub returns-in-Ok : goal.returns-in-Ok
 returns-in-Ok c =
