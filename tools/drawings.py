@@ -80,7 +80,7 @@ def fill(processor: int) -> str:
 
 
 def coloured(cell: Cell, shown: str) -> str:
-    """The same with the colours of a terminal that has 256 of them."""
+    """What is shown of a cell, with the colours of a terminal that has 256 of them."""
     if cell.kind is Kind.NOTHING:
         return shown
     if cell.kind in (Kind.OWNED, Kind.HELD):

@@ -1,24 +1,28 @@
 //! What is told of a text that is accepted.
 
 ghost use Rattle.std.specs.Prelude.{◌≡◌};
-ghost use Rattle.hpf_cmd.specs.CountsText.{counts_text};
-ghost use Rattle.hpf_cmd.specs.Outside.{sink};
+ghost use Rattle.hpf_io.specs.Writes.{Writes};
+ghost use Rattle.hpf_request.specs.CountsText.{counts_text};
 ghost use Rattle.hpf_cmd.specs.Shows.{Shows};
 
-use crate::line::{Line, plain, push_number};
-use crate::print::print_text;
-use crate::status::Status;
-use hpf_io::Sink;
+use crate::print::flushed;
+use hpf_io::{Failed, Sink, write_all};
 use hpf_map::Counts;
+use hpf_status::{Line, Status, plain, push_number};
 
 /// Prints how much a text declares, and how many stages it has.
 pub(crate) fn tell_counts<K: Sink>(counts: Counts, out: &mut K) -> Status
-    ensures { Shows (sink K.given K.flushed K.faults K.takes) out.old out.new (counts_text counts) result }
+    ensures { Shows (K.state out.old) (K.state out.new) (counts_text counts) result }
 {
-    match print_text(counts_line(counts).as_str().as_bytes(), out) {
-        Ok(()) => Status::Ok,
-        Err(_) => Status::WriteFault,
-    }
+    let given = write_counts(counts, out);
+    flushed(given, out)
+}
+
+/// Writes the line of the counts.
+fn write_counts<K: Sink>(counts: Counts, out: &mut K) -> Result<(), Failed>
+    ensures { Writes (K.state out.old) (K.state out.new) result (counts_text counts) }
+{
+    write_all(out, counts_line(counts).as_str().as_bytes())
 }
 
 /// The line of the counts.

@@ -2,10 +2,10 @@
 
 ghost use Rattle.std.specs.Prelude.{◌≡◌};
 ghost use Rattle.hpf_io.specs.Writes.{Writes};
-ghost use Rattle.hpf_cmd.specs.MarkLine.{mark_line};
+ghost use Rattle.hpf_request.specs.MarkLine.{mark_line};
 
-use crate::line::{Line, plain, push_number};
 use hpf_io::{Failed, Sink, write_all};
+use hpf_status::{Line, plain, push_number};
 
 /// Writes the line of one processor's mark: its stage and number, how many elements it held, and its sum.
 pub(crate) fn mark_line<N: Sink>(
@@ -15,7 +15,7 @@ pub(crate) fn mark_line<N: Sink>(
     sum: u64,
     notes: &mut N,
 ) -> Result<(), Failed>
-    ensures { Writes N.given N.flushed N.faults N.takes notes.old notes.new result (mark_line stage proc held sum) }
+    ensures { Writes (N.state notes.old) (N.state notes.new) result (mark_line stage proc held sum) }
 {
     write_all(notes, mark_text(stage, proc, held, sum).as_str().as_bytes())
 }

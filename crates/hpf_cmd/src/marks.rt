@@ -2,16 +2,16 @@
 
 ghost use Rattle.std.specs.Prelude.{◌≡◌, ◌≤◌, ℕ, ℤ, List, length};
 ghost use Rattle.hpf_io.specs.Writes.{Writes};
-ghost use Rattle.hpf_cmd.specs.MarkLines.{lines_of};
+ghost use Rattle.hpf_request.specs.MarkLines.{lines_of};
 
 use crate::mark_line::mark_line;
-use crate::part::Part;
 use hpf_io::{Failed, Sink};
+use hpf_request::Part;
 
 /// Writes a line for each processor's mark, in order.
 pub(crate) fn mark_lines<N: Sink>(parts: &[Part], notes: &mut N) -> Result<(), Failed>
     requires { length parts.now ≤ 64 }
-    ensures { Writes N.given N.flushed N.faults N.takes notes.old notes.new result (lines_of 0 parts.now) }
+    ensures { Writes (N.state notes.old) (N.state notes.new) result (lines_of 0 parts.now) }
 {
     for (proc, part) in parts.iter().enumerate() {
         mark_line(0, proc as u32, part.held(), part.sum(), notes)?;

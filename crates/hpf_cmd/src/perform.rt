@@ -1,26 +1,27 @@
 //! Does what is asked for.
 
-ghost use Rattle.std.specs.Prelude.{◌≡◌, ◌≢◌, map, OnOk, IfErr};
+ghost use Rattle.std.specs.Prelude.{◌≡◌, ◌≢◌, map};
+ghost use Rattle.hpf_request.specs.Request.{IsMet, deed_of};
+ghost use Rattle.hpf_stream.specs.Outside.{outside, moment};
 ghost use Rattle.hpf_syntax.specs.Canonical.{canonical};
 ghost use Rattle.hpf_syntax.specs.Parsed.{IsParsed};
 ghost use Rattle.hpf_syntax.specs.Plain.{item_tree};
 ghost use Rattle.hpf_cmd.specs.Does.{Does, Untouched};
-ghost use Rattle.hpf_cmd.specs.Outside.{source, sink, Flushes};
-ghost use Rattle.hpf_cmd.specs.Request.{IsMet, request_tree, deed_of};
+ghost use Rattle.hpf_cmd.specs.Ended.{IsOfDeed};
 ghost use Rattle.hpf_cmd.specs.Shows.{Shows};
-ghost use Rattle.hpf_cmd.specs.Statuses.{IsOfDeed};
 
 use crate::check::tell_counts;
-use crate::print::print_text;
-use crate::request::Request;
+use crate::print::flushed;
 use crate::run::run_form;
-use crate::status::Status;
 use crate::tell::{tell_owners, tell_part};
-use hpf_io::{Sink, Source};
+use hpf_io::{Sink, Source, write_all};
+use hpf_request::Request;
+use hpf_status::Status;
 use hpf_syntax::{Items, print};
 use std::alloc::Global;
 
-/// Does what is asked for: prints a text to `out`, or runs frames from `frames` to `out` and tells their marks to `notes`.
+/// Does what is asked for: prints a text to `out`, or runs frames from `frames` to `out` and tells their marks to
+/// `notes`.
 pub(crate) fn perform<S: Source, K: Sink, N: Sink>(
     alloc: Global,
     request: Request,
@@ -29,11 +30,11 @@ pub(crate) fn perform<S: Source, K: Sink, N: Sink>(
     notes: &mut N,
 ) -> Status
     requires { IsMet request }
-    ensures done { result ≢ Status.OutOfMemory → Does (source S.left S.faults) (sink K.given K.flushed K.faults K.takes)
-        (sink N.given N.flushed N.faults N.takes)
-        frames.old frames.new out.old out.new notes.old notes.new (deed_of (request_tree request)) result }
+    ensures done { result ≢ Status.OutOfMemory → Does (outside S.state K.state N.state)
+        (moment frames.old out.old notes.old) (moment frames.new out.new notes.new) (deed_of request) result }
     ensures kinds { IsOfDeed result }
-    ensures memory { result ≡ Status.OutOfMemory → Untouched frames.old frames.new out.old out.new notes.old notes.new }
+    ensures memory { result ≡ Status.OutOfMemory
+        → Untouched (moment frames.old out.old notes.old) (moment frames.new out.new notes.new) }
 {
     match request {
         Request::Show(items) => show(alloc, &items, out),
@@ -47,13 +48,14 @@ pub(crate) fn perform<S: Source, K: Sink, N: Sink>(
 /// Prints the canonical text of these statements.
 fn show<K: Sink>(alloc: Global, items: &Items, out: &mut K) -> Status
     requires { IsParsed (map item_tree items.now) }
-    ensures { Shows (sink K.given K.flushed K.faults K.takes) out.old out.new (canonical (map item_tree items.now)) result }
+    ensures shown { result ≢ Status.OutOfMemory
+        → Shows (K.state out.old) (K.state out.new) (canonical (map item_tree items.now)) result }
+    ensures kinds { IsOfDeed result }
+    ensures memory { result ≡ Status.OutOfMemory → out.new ≡ out.old }
 {
     let Ok(text) = print(alloc, items) else {
         return Status::OutOfMemory;
     };
-    match print_text(text.as_slice(), out) {
-        Ok(()) => Status::Ok,
-        Err(_) => Status::WriteFault,
-    }
+    let given = write_all(out, text.as_slice());
+    flushed(given, out)
 }

@@ -2,21 +2,20 @@
 
 ghost use Rattle.std.specs.Prelude.{◌≡◌, ◌≢◌, []};
 ghost use Rattle.hpf_frame.specs.FrameFile.{elements};
-ghost use Rattle.hpf_cmd.specs.Outside.{source, sink};
-ghost use Rattle.hpf_cmd.specs.MarkLines.{mark_lines};
-ghost use Rattle.hpf_cmd.specs.Parts.{HaveTaken, places};
-ghost use Rattle.hpf_cmd.specs.Pipeline.{one_stage, run_flow};
-ghost use Rattle.hpf_cmd.specs.Streams.{Ends};
+ghost use Rattle.hpf_request.specs.Deed.{Stream};
+ghost use Rattle.hpf_request.specs.Parts.{HaveTaken, places};
+ghost use Rattle.hpf_request.specs.Pipeline.{flow_of};
+ghost use Rattle.hpf_stream.specs.Outside.{outside, moment};
+ghost use Rattle.hpf_cmd.specs.Does.{Does, Untouched};
+ghost use Rattle.hpf_cmd.specs.Ended.{IsOfDeed};
 
-use crate::consumer::Consumer;
-use crate::form::Form;
+use crate::ended::ended;
 use crate::marks::mark_lines;
-use crate::part::Part;
-use crate::parts::add_frame;
-use crate::status::Status;
-use crate::stream::stream;
 use hpf_frame::{write_end, write_frame, write_header};
 use hpf_io::{Failed, Sink, Source};
+use hpf_request::{Form, Part, add_frame};
+use hpf_status::Status;
+use hpf_stream::{Consumer, stream};
 use std::alloc::Global;
 
 /// The parts of an array with these extents, with their marks so far.
@@ -27,7 +26,7 @@ pub(crate) struct Run<'a> {
 }
 
 impl Consumer for Run<'_> {
-    ghost flow = { λ run. run_flow (one_stage run.extents.now) (mark_lines (places run.parts.items)) };
+    ghost flow = { λ run. flow_of (record { extents = run.extents.now; parts = places run.parts.items }) };
 
     ghost has_taken = { λ run frames. HaveTaken run.extents.now run.parts.items frames };
 
@@ -59,13 +58,13 @@ pub(crate) fn run_form<S: Source, K: Sink, N: Sink>(
 ) -> Status
     requires taken { HaveTaken form.extents.items form.parts.items [] }
     requires elements { form.elements ≡ elements form.extents.items }
-    ensures ends { result ≢ Status.OutOfMemory → Ends (source S.left S.faults) (sink K.given K.flushed K.faults K.takes)
-        (sink N.given N.flushed N.faults N.takes)
-        (run_flow (one_stage form.extents.items) (mark_lines (places form.parts.items))) frames.old frames.new out.old out.new notes.old notes.new result }
+    ensures done { result ≢ Status.OutOfMemory → Does (outside S.state K.state N.state)
+        (moment frames.old out.old notes.old) (moment frames.new out.new notes.new)
+        (Stream (flow_of (record { extents = form.extents.items; parts = places form.parts.items }))) result }
+    ensures kinds { IsOfDeed result }
     // Want of memory comes before anything else.
-    ensures unread { result ≡ Status.OutOfMemory → frames.new ≡ frames.old }
-    ensures unwritten { result ≡ Status.OutOfMemory → out.new ≡ out.old }
-    ensures unmarked { result ≡ Status.OutOfMemory → notes.new ≡ notes.old }
+    ensures memory { result ≡ Status.OutOfMemory
+        → Untouched (moment frames.old out.old notes.old) (moment frames.new out.new notes.new) }
 {
     let Form {
         extents,
@@ -77,5 +76,5 @@ pub(crate) fn run_form<S: Source, K: Sink, N: Sink>(
     };
     let extents = extents.as_slice();
     let mut run = Run { extents, parts };
-    stream(&mut run, extents, &mut frame, frames, out, notes)
+    ended(stream(&mut run, extents, &mut frame, frames, out, notes))
 }

@@ -1,4 +1,5 @@
 pub mod Blocks
+pub mod Owned
 pub mod Refusals
 pub mod Rows
 pub mod Spreads

@@ -3,10 +3,10 @@
 ghost use Rattle.std.specs.Prelude.{◌≡◌, ◌==◌, ◌<◌, ◌≤◌, ◌≤ℤ◌, ◌↔◌, All, IsOk, IfOk, IsTrue};
 ghost use Rattle.std.specs.List.{list_any};
 ghost use Rattle.hpf_dist.specs.Owner.{own, ceiling};
-ghost use Rattle.hpf_dist.specs.Spread.{IsPosition, owner_at, spread};
+ghost use Rattle.hpf_dist.specs.Spread.{IsPosition, HasOwners, owner_at, spread};
 ghost use Rattle.hpf_dist.specs.Condition.{HasSmallNumbers, Suits, Breaks};
 ghost use Rattle.hpf_dist.specs.Around.{IsAround};
-ghost use Rattle.hpf_dist.specs.Axis.{AreBounds, AreProcs, extent, before};
+ghost use Rattle.hpf_dist.specs.Axis.{AreBounds, AreProcs, IsAxis, extent, before};
 ghost use Rattle.hpf_dist.specs.declared.refusal.AxisRefusal.{AxisRefusal};
 
 use crate::around::{Around, in_block};
@@ -69,6 +69,15 @@ impl Axis {
                 format,
             }),
         }
+    }
+
+    /// Over how many processors the dimension is divided. One of them owns each position.
+    pub fn procs(&self) -> u32
+        ensures procs { result ≡ self.now.procs }
+        ensures axis { IsAxis self.now }
+        ensures owners { HasOwners self.now }
+    {
+        self.procs
     }
 
     /// The coordinate, from 0, of the processor that owns the position `t`.

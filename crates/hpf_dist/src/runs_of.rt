@@ -28,7 +28,7 @@ impl Axis {
         for k in 0..bounds.extent() {
             let i = bounds.at(k);
             if self.is_share(c, a * i + b) {
-                runs.push(Run { low: i, high: i })?;
+                runs.push(alloc, Run { low: i, high: i })?;
             }
         }
         Ok(runs)

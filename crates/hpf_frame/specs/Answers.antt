@@ -1,8 +1,10 @@
 -- What a call that reads answers, and what it leaves of the source.
-use Rattle.std.specs.Prelude.{◌≡◌, ℕ, ◌<◌, List, [], ◌∷◌, ◌++◌, length, Option, Some, Result, Ok, Err, Bool, true, false}
+use Rattle.std.specs.Prelude.{◌≡◌, ℕ, ◌<◌, ◌≤◌, List, [], ◌∷◌, ◌++◌, length, Some, Result, Ok, Err, Bool, true, false}
 use Rattle.hpf_io.specs.declared.failed.Failed.{Failed}
-use Rattle.hpf_io.specs.Bytes.{Takes}
-use Rattle.hpf_frame.specs.FrameFile.{HasHeader, number}
+use Rattle.hpf_io.specs.States.{SourceState}
+use Rattle.hpf_io.specs.Counts.{Rose}
+use Rattle.hpf_io.specs.Bytes.{Takes, IsOver}
+use Rattle.hpf_frame.specs.FrameFile.{number}
 use Rattle.hpf_frame.specs.declared.error.InputError.{InputError}
 use Rattle.hpf_frame.specs.declared.error.InputError.TheVariants.{Refused, ReadFault}
 use Rattle.hpf_frame.specs.declared.error.Next.{Next}
@@ -26,12 +28,18 @@ UnlessReadFault (Ok x) P = P
 UnlessReadFault (Err (Refused code offset)) P = P
 UnlessReadFault (Err ReadFault) P = Unit {0}
 
+-- A fault of the source was counted, and nothing else.
+pub record CountsFault {T : Type 0} (before now : ℕ) (result : Result T InputError) : Type 0 where
+  pub failed : OnReadFault result (Rose before now)
+  pub same : UnlessReadFault result (now ≡ before)
+  pub later : before ≤ now
+
 -- Fewer bytes than the limit were taken, and what the source held is wrong.
-pub record TakesWrong (before after : Option (List ℕ)) (limit : ℕ) (IsWrong : List ℕ → Type 0) : Type 0 where
+pub record TakesWrong (before after : SourceState) (limit : ℕ) (IsWrong : List ℕ → Type 0) : Type 0 where
   pub front : List ℕ
   pub few : length front < limit
   pub taken : Takes before after front
-  pub wrong : (rest : List ℕ) → after ≡ Some rest → IsWrong (front ++ rest)
+  pub wrong : (rest : List ℕ) → after.left ≡ Some rest → IsWrong (front ++ rest)
 
 -- Where a frame was read, P holds.
 abbrev pub OnFrame : Result Next InputError → Type 0 → Type 0
@@ -51,32 +59,20 @@ UnlessFrame (Ok Frame) P = Unit {0}
 UnlessFrame (Ok End) P = P
 UnlessFrame (Err e) P = P
 
--- The source has ended, where it tells.
-abbrev pub IsOver : Option (List ℕ) → Type 0
-IsOver left = (rest : List ℕ) → left ≡ Some rest → rest ≡ []
-
--- no refusal says yet which field is wrong
-abbrev pub IsNotBuilt : ℕ → ℕ → Type 0
-IsNotBuilt code offset = (code ≡ 0) × (offset ≡ 0)
-
--- the bytes do not begin with the header
-abbrev pub LacksHeader : List ℕ → List ℕ → Type 0
-LacksHeader extents bytes = ¬ HasHeader extents bytes
-
 -- the mark and the number with which a record or the end begins
 abbrev pub head_bytes : Next → ℕ → List ℕ
 head_bytes Frame count = 1 ∷ number count
 head_bytes End count = 0 ∷ number count
 
 -- A front shorter than n was taken, and then the source ended.
-pub record EndsWithin (before after : Option (List ℕ)) (n : ℕ) : Type 0 where
+pub record EndsWithin (before after : SourceState) (n : ℕ) : Type 0 where
   pub front : List ℕ
   pub few : length front < n
   pub taken : Takes before after front
   pub over : IsOver after
 
 -- One byte was taken.
-abbrev pub TakesOne : Option (List ℕ) → Option (List ℕ) → Type 0
+abbrev pub TakesOne : SourceState → SourceState → Type 0
 TakesOne before after = (byte : ℕ) × Takes before after (byte ∷ [])
 
 -- P of what was answered, Q of what was not

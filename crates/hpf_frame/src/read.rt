@@ -2,10 +2,11 @@
 
 ghost use Rattle.std.specs.Prelude.{◌≡◌, ◌≢◌, ◌↔◌, IsTrue, false, IfSome, IfNone, ◌<◌, ◌≤◌, ◌+◌, ◌*◌, ◌-◌, ◌^◌, ◌∷◌, [], ◌++◌, List, ℕ, true, length, Some, Ok, IfOk, OnOk, OnErr};
 ghost use Rattle.std.specs.List.{flat_map};
-ghost use Rattle.hpf_io.specs.Counts.{Rose};
-ghost use Rattle.hpf_io.specs.Bytes.{Takes, TakesFewer};
-ghost use Rattle.hpf_frame.specs.FrameFile.{AreExtents, HasHeader, IsBroken, IsFrame, AreValues, header, header_length, record_of, record_length, end_of, element};
-ghost use Rattle.hpf_frame.specs.Answers.{OnRefused, OnReadFault, UnlessReadFault, TakesWrong, OnFrame, OnEnd, UnlessFrame, IsOver, LacksHeader, IsNotBuilt, head_bytes, EndsWithin, TakesOne, Whole};
+ghost use Rattle.hpf_io.specs.Counts.{Counted};
+ghost use Rattle.hpf_io.specs.Bytes.{Takes, TakesFewer, IsOver};
+ghost use Rattle.hpf_frame.specs.FrameFile.{version_one, AreExtents, IsFrame, AreValues, header, header_length, record_of, record_length, end_of, element};
+ghost use Rattle.hpf_frame.specs.Faults.{InHeader, IsFault, RecordFault};
+ghost use Rattle.hpf_frame.specs.Answers.{OnRefused, OnReadFault, CountsFault, TakesWrong, OnFrame, OnEnd, UnlessFrame, head_bytes, EndsWithin, TakesOne, Whole};
 
 use crate::bytes::{LONGEST_HEADER, PIECE, PIECE_VALUES, decode, number_of, put_header};
 use crate::error::{InputError, Next, Progress};
@@ -19,15 +20,13 @@ const NOT_BUILT: InputError = InputError::Refused { code: 0, offset: 0 };
 pub fn read_header<S: Source>(from: &mut S, extents: &[u32]) -> Result<Progress, InputError>
     requires { AreExtents extents.now }
     ensures start { IfOk result (λ at. at ≡ record { frames = 0; offset = header_length (length extents.now); live = true }) }
-    ensures taken { OnOk result (Takes (S.left from.old) (S.left from.new) (header extents.now)) }
+    ensures taken { OnOk result (Takes (S.state from.old) (S.state from.new) (header version_one extents.now)) }
 
-    ensures code { OnRefused result IsNotBuilt }
-    ensures refused { OnRefused result (λ _ _. TakesWrong (S.left from.old) (S.left from.new) (header_length (length extents.now) + 1) (LacksHeader extents.now)) }
+    ensures refused { OnRefused result (λ code offset. TakesWrong (S.state from.old) (S.state from.new) (header_length (length extents.now) + 1)
+        (λ held. IsFault extents.now held InHeader code offset)) }
 
-    ensures failed { OnReadFault result (Rose (S.faults from.old) (S.faults from.new)) }
-    ensures fewer { OnReadFault result (TakesFewer (S.left from.old) (S.left from.new) (header_length (length extents.now))) }
-    ensures counted { UnlessReadFault result (S.faults from.new ≡ S.faults from.old) }
-    ensures later { S.faults from.old ≤ S.faults from.new }
+    ensures fewer { OnReadFault result (TakesFewer (S.state from.old) (S.state from.new) (header_length (length extents.now))) }
+    ensures counted { CountsFault (S.state from.old).faults (S.state from.new).faults result }
 {
     let len = 8 + 4 * extents.len();
     let mut bytes = [0u8; LONGEST_HEADER];
@@ -45,7 +44,7 @@ pub fn read_header<S: Source>(from: &mut S, extents: &[u32]) -> Result<Progress,
 /// Whether the bytes are the header for these extents.
 fn is_header(bytes: &[u8], extents: &[u32]) -> bool
     requires { length extents.now ≤ 7 }
-    ensures { IsTrue result ↔ (bytes.now ≡ header extents.now) }
+    ensures { IsTrue result ↔ (bytes.now ≡ header version_one extents.now) }
 {
     let mut expected = [0u8; LONGEST_HEADER];
     let len = put_header(extents, &mut expected);
@@ -54,28 +53,24 @@ fn is_header(bytes: &[u8], extents: &[u32]) -> bool
 
 /// Fills `into`, and answers whether the source had so many bytes.
 fn read_whole<S: Source>(from: &mut S, into: &mut [u8]) -> Result<bool, Failed>
-    ensures whole { Whole result (Takes (S.left from.old) (S.left from.new) into.new) (EndsWithin (S.left from.old) (S.left from.new) (length into.old)) }
+    ensures whole { Whole result (Takes (S.state from.old) (S.state from.new) into.new) (EndsWithin (S.state from.old) (S.state from.new) (length into.old)) }
 
-    ensures failed { OnErr result (Rose (S.faults from.old) (S.faults from.new)) }
-    ensures fewer { OnErr result (TakesFewer (S.left from.old) (S.left from.new) (length into.old)) }
-    ensures counted { OnOk result (S.faults from.new ≡ S.faults from.old) }
-    ensures later { S.faults from.old ≤ S.faults from.new }
+    ensures counted { Counted (S.state from.old).faults (S.state from.new).faults result }
+    ensures fewer { OnErr result (TakesFewer (S.state from.old) (S.state from.new) (length into.old)) }
 {
     Ok(read_full(from, into)? == into.len())
 }
 
 /// Reads the mark and the number of the next record or of the end.
 fn read_head<S: Source>(from: &mut S, frame: u32) -> Result<Next, InputError>
-    ensures taken { IfOk result (λ next. Takes (S.left from.old) (S.left from.new) (head_bytes next frame)) }
+    ensures taken { IfOk result (λ next. Takes (S.state from.old) (S.state from.new) (head_bytes next frame)) }
     ensures few { OnFrame result (frame < 2 ^ 32 - 1) }
 
-    ensures code { OnRefused result IsNotBuilt }
-    ensures refused { OnRefused result (λ _ _. TakesWrong (S.left from.old) (S.left from.new) 6 (λ held. (size : ℕ) → IsBroken size frame held)) }
+    ensures refused { OnRefused result (λ code offset. TakesWrong (S.state from.old) (S.state from.new) 6
+        (λ held. (size begins : ℕ) → RecordFault version_one size frame begins held code offset)) }
 
-    ensures failed { OnReadFault result (Rose (S.faults from.old) (S.faults from.new)) }
-    ensures fewer { OnReadFault result (TakesFewer (S.left from.old) (S.left from.new) 5) }
-    ensures counted { UnlessReadFault result (S.faults from.new ≡ S.faults from.old) }
-    ensures later { S.faults from.old ≤ S.faults from.new }
+    ensures fewer { OnReadFault result (TakesFewer (S.state from.old) (S.state from.new) 5) }
+    ensures counted { CountsFault (S.state from.old).faults (S.state from.new).faults result }
 {
     let mut head = [0u8; 5];
     if !read_whole(from, &mut head)? {
@@ -109,12 +104,10 @@ fn judge_head(head: &[u8], frame: u32) -> Option<Next>
 /// Fills `into` with values, and answers whether the source had so many.
 fn read_values<S: Source>(from: &mut S, into: &mut [i32]) -> Result<bool, Failed>
     requires { length into.old ≤ 2 ^ 24 }
-    ensures whole { Whole result (Takes (S.left from.old) (S.left from.new) (flat_map element into.new) × AreValues into.new) (EndsWithin (S.left from.old) (S.left from.new) (4 * length into.old)) }
+    ensures whole { Whole result (Takes (S.state from.old) (S.state from.new) (flat_map (element version_one) into.new) × AreValues version_one into.new) (EndsWithin (S.state from.old) (S.state from.new) (4 * length into.old)) }
 
-    ensures failed { OnErr result (Rose (S.faults from.old) (S.faults from.new)) }
-    ensures fewer { OnErr result (TakesFewer (S.left from.old) (S.left from.new) (4 * length into.old)) }
-    ensures counted { OnOk result (S.faults from.new ≡ S.faults from.old) }
-    ensures later { S.faults from.old ≤ S.faults from.new }
+    ensures counted { Counted (S.state from.old).faults (S.state from.new).faults result }
+    ensures fewer { OnErr result (TakesFewer (S.state from.old) (S.state from.new) (4 * length into.old)) }
 {
     let mut piece = [0u8; PIECE];
     let mut filled = 0;
@@ -135,12 +128,10 @@ fn read_values<S: Source>(from: &mut S, into: &mut [i32]) -> Result<bool, Failed
 /// Fills `into` with values by way of the piece, and answers whether the source had so many.
 fn read_piece<S: Source>(from: &mut S, piece: &mut [u8], into: &mut [i32]) -> Result<bool, Failed>
     requires { length piece.old ≡ 4 * length into.old }
-    ensures whole { Whole result (Takes (S.left from.old) (S.left from.new) (flat_map element into.new) × AreValues into.new) (EndsWithin (S.left from.old) (S.left from.new) (4 * length into.old)) }
+    ensures whole { Whole result (Takes (S.state from.old) (S.state from.new) (flat_map (element version_one) into.new) × AreValues version_one into.new) (EndsWithin (S.state from.old) (S.state from.new) (4 * length into.old)) }
 
-    ensures failed { OnErr result (Rose (S.faults from.old) (S.faults from.new)) }
-    ensures fewer { OnErr result (TakesFewer (S.left from.old) (S.left from.new) (4 * length into.old)) }
-    ensures counted { OnOk result (S.faults from.new ≡ S.faults from.old) }
-    ensures later { S.faults from.old ≤ S.faults from.new }
+    ensures counted { Counted (S.state from.old).faults (S.state from.new).faults result }
+    ensures fewer { OnErr result (TakesFewer (S.state from.old) (S.state from.new) (4 * length into.old)) }
 {
     if !read_whole(from, piece)? {
         return Ok(false);
@@ -151,12 +142,10 @@ fn read_piece<S: Source>(from: &mut S, piece: &mut [u8], into: &mut [i32]) -> Re
 
 /// Whether the source has ended. Where it has not, a byte is read.
 fn has_ended<S: Source>(from: &mut S) -> Result<bool, Failed>
-    ensures ended { Whole result (Takes (S.left from.old) (S.left from.new) [] × IsOver (S.left from.new)) (TakesOne (S.left from.old) (S.left from.new)) }
+    ensures ended { Whole result (Takes (S.state from.old) (S.state from.new) [] × IsOver (S.state from.new)) (TakesOne (S.state from.old) (S.state from.new)) }
 
-    ensures failed { OnErr result (Rose (S.faults from.old) (S.faults from.new)) }
-    ensures fewer { OnErr result (TakesFewer (S.left from.old) (S.left from.new) (1)) }
-    ensures counted { OnOk result (S.faults from.new ≡ S.faults from.old) }
-    ensures later { S.faults from.old ≤ S.faults from.new }
+    ensures counted { Counted (S.state from.old).faults (S.state from.new).faults result }
+    ensures fewer { OnErr result (TakesFewer (S.state from.old) (S.state from.new) (1)) }
 {
     let mut byte = [0u8; 1];
     Ok(read_full(from, &mut byte)? == 0)
@@ -174,23 +163,21 @@ pub fn read_frame<S: Source>(
     requires some { 0 < length into.old }
     requires few { length into.old ≤ 2 ^ 24 }
 
-    ensures frame { OnFrame result (Takes (S.left from.old) (S.left from.new) (record_of at.old.frames into.new)) }
-    ensures values { OnFrame result (IsFrame (length into.old) into.new) }
+    ensures frame { OnFrame result (Takes (S.state from.old) (S.state from.new) (record_of version_one at.old.frames into.new)) }
+    ensures values { OnFrame result (IsFrame version_one (length into.old) into.new) }
     ensures number { OnFrame result (at.old.frames < 2 ^ 32 - 1) }
-    ensures next { OnFrame result (at.new ≡ record { frames = at.old.frames + 1; offset = at.old.offset + record_length (length into.old); live = true }) }
+    ensures next { OnFrame result (at.new ≡ record { frames = at.old.frames + 1; offset = at.old.offset + record_length version_one (length into.old); live = true }) }
 
-    ensures end { OnEnd result (Takes (S.left from.old) (S.left from.new) (end_of at.old.frames)) }
-    ensures over { OnEnd result (IsOver (S.left from.new)) }
+    ensures end { OnEnd result (Takes (S.state from.old) (S.state from.new) (end_of at.old.frames)) }
+    ensures over { OnEnd result (IsOver (S.state from.new)) }
     ensures kept { OnEnd result (into.new ≡ into.old) }
     ensures stopped { UnlessFrame result (at.new ≡ record at.old { live = false }) }
 
-    ensures code { OnRefused result IsNotBuilt }
-    ensures refused { OnRefused result (λ _ _. TakesWrong (S.left from.old) (S.left from.new) (record_length (length into.old)) (IsBroken (length into.old) at.old.frames)) }
+    ensures refused { OnRefused result (λ code offset. TakesWrong (S.state from.old) (S.state from.new) (record_length version_one (length into.old))
+        (λ held. RecordFault version_one (length into.old) at.old.frames at.old.offset held code offset)) }
 
-    ensures failed { OnReadFault result (Rose (S.faults from.old) (S.faults from.new)) }
-    ensures fewer { OnReadFault result (TakesFewer (S.left from.old) (S.left from.new) (record_length (length into.old))) }
-    ensures counted { UnlessReadFault result (S.faults from.new ≡ S.faults from.old) }
-    ensures later { S.faults from.old ≤ S.faults from.new }
+    ensures fewer { OnReadFault result (TakesFewer (S.state from.old) (S.state from.new) (record_length version_one (length into.old))) }
+    ensures counted { CountsFault (S.state from.old).faults (S.state from.new).faults result }
 {
     at.live = false;
     match read_head(from, at.frames)? {

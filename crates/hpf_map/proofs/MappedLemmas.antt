@@ -1,10 +1,10 @@
 -- The mapping of an array, from its images in its ultimate base.
-use Rattle.std.proofs.Common.{◌≡◌, ℕ, ◌+◌, ◌-◌, ◌*◌, ◌^◌, ◌<◌, ◌≤◌, List, [], ◌∷◌, length, map, get_or, take, All, replicate, pos, neg_ℤ, ◌+ℤ◌, ◌-ℤ◌, ◌≤ℤ◌, unsigned_abs, arith, sym, ap, ◌∙◌, refl, mul_assoc}
+use Rattle.std.proofs.Common.{◌≡◌, ℕ, zero, suc, ◌+◌, ◌-◌, ◌*◌, ◌^◌, ◌<◌, ◌≤◌, List, [], ◌∷◌, length, map, get_or, All, replicate, pos, neg_ℤ, ◌+ℤ◌, ◌-ℤ◌, ◌≤ℤ◌, unsigned_abs, arith, sym, ap, ◌∙◌, refl, mul_assoc}
 use Rattle.std.specs.Prelude.{fold}
 use Rattle.std.proofs.lemmas.Bool.{ltb-false}
 use Rattle.std.proofs.lemmas.Int.{ints}
 use Rattle.std.proofs.lemmas.List.{get_or_default, length-map, length-replicate}
-use Rattle.std.proofs.lemmas.List.Elements.{All-take, All-map, All-head, All-tail}
+use Rattle.std.proofs.lemmas.List.Elements.{All-map, All-head, All-tail}
 use Rattle.std.proofs.Math.Nat.{mul-le-mul}
 use Rattle.hpf_dist.specs.Axis.{AreProcs}
 use Rattle.hpf_num.specs.declared.run.Run.{Run}
@@ -13,7 +13,6 @@ use Rattle.hpf_num.specs.Run.{or_zero}
 use Rattle.hpf_own.specs.Lists.{IsShort, IsBounds, IsSizes}
 use Rattle.hpf_own.specs.KeptLists.{no_width}
 use Rattle.hpf_own.specs.Mapping.{AreInLimits}
-use Rattle.hpf_own.proofs.Products.{product-some, product-take, product_more}
 use Rattle.hpf_own.specs.Space.{product, size_of}
 use Rattle.hpf_map.specs.declared.name.Space.TheVariants.{Array, Arrangement}
 use Rattle.hpf_map.specs.declared.name.Span.{Span}
@@ -108,13 +107,19 @@ target_sizes target is =
 
 -- ---- one dimension
 
+some_product : (sizes : List ℕ) → All (λ n. 1 ≤ n) sizes → 1 ≤ product sizes
+some_product [] some = omega arith
+some_product (n ∷ sizes) some =
+    mul-le-mul (All-head (λ n. 1 ≤ n) n sizes some) (some_product sizes (All-tail (λ n. 1 ≤ n) n sizes some))
+
 factor_small : (sizes : List ℕ) (e : ℕ) → All (λ n. 1 ≤ n) sizes → e < length sizes → get_or sizes e 0 ≤ product sizes
-factor_small sizes e some below =
-    let front : 1 ≤ product (take e sizes) = product-some (take e sizes) (All-take (λ n. 1 ≤ n) e sizes some) in
-    let more : product (take (e + 1) sizes) ≡ product (take e sizes) * get_or sizes e 0 = product_more sizes e below in
-    let least : product (take (e + 1) sizes) ≤ product sizes = product-take sizes (e + 1) some in
-    let one : 1 * get_or sizes e 0 ≤ product (take e sizes) * get_or sizes e 0 = mul-le-mul front (let same : get_or sizes e 0 ≤ get_or sizes e 0 = omega arith in same) in
-    omega arith
+factor_small [] e some below = absurd (omega arith)
+factor_small (n ∷ sizes) zero some below =
+    let rest = some_product sizes (All-tail (λ n. 1 ≤ n) n sizes some) in
+    omega (arith, mul-le-mul (let same : n ≤ n = omega arith in same) rest)
+factor_small (n ∷ sizes) (suc e) some below =
+    let rest = factor_small sizes e (All-tail (λ n. 1 ≤ n) n sizes some) (omega arith) in
+    omega (arith, mul-le-mul (All-head (λ n. 1 ≤ n) n sizes some) rest)
 
 pub dim_procs : (sizes : List ℕ) (e d : ℕ) → IsSizes sizes → e < length sizes → AreProcs (get_or sizes e d)
 dim_procs sizes e d are below =

@@ -1,3 +1,4 @@
 pub mod Divisions
 pub mod Members
 pub mod Ends
+pub mod Rows

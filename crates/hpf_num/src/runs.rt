@@ -37,7 +37,7 @@ impl Runs {
     }
 
     /// Appends the integers of a run, which lies above every member. Where there is no memory, the list stays as it was.
-    pub fn push(&mut self, run: Run) -> Result<(), AllocError>
+    pub fn push(&mut self, _alloc: Global, run: Run) -> Result<(), AllocError>
         requires above { All (λ i. i <ℤ run.low) self.old }
         requires limits { IsInLimits run }
         ensures ok { OnOk result (self.new ≡ self.old ++ integers run) }

@@ -41,9 +41,9 @@ fn list(alloc: Global, first: Run, second: Run, third: Run) -> Result<Runs, Allo
     requires rest_apart { second.high <ℤ third.low }
 {
     let mut runs = Runs::new(alloc);
-    runs.push(first)?;
-    runs.push(second)?;
-    runs.push(third)?;
+    runs.push(alloc, first)?;
+    runs.push(alloc, second)?;
+    runs.push(alloc, third)?;
     Ok(runs)
 }
 

@@ -13,11 +13,13 @@ pub mod Leading
 pub mod Sets
 pub mod Next
 pub mod Order
+pub mod Correspondence
 pub mod Leads
 pub mod Sends
 pub mod Numbers
 pub mod Rows
 pub mod Sides
+pub mod Places
 pub mod Boxes
 pub mod Narrowing
 pub mod Parts

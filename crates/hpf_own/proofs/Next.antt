@@ -1,13 +1,10 @@
--- The owners of a set, one after another.
-use Rattle.std.proofs.Common.{◌≡◌, ℕ, zero, suc, ◌+◌, ◌-◌, ◌<◌, ◌≤◌, Bool, true, false, ◌&&◌, ltb, List, [], ◌∷◌, ◌++◌, get_or, Option, Some, None, arith, sym, ap, ◌∙◌, refl, zero-add, add-zero, append-nil, inl, inr}
-use Rattle.std.specs.List.{filter, find, range_with_len}
+-- The numbers of a set in order.
+use Rattle.std.proofs.Common.{◌≡◌, ℕ, zero, suc, ◌+◌, ◌-◌, ◌<◌, ◌≤◌, Bool, true, false, ◌&&◌, ltb, List, [], ◌∷◌, ◌++◌, arith, sym, ap, ◌∙◌, refl, zero-add, add-zero, append-nil}
+use Rattle.std.specs.List.{filter, range_with_len}
 use Rattle.std.specs.Int.{bit_at}
-use Rattle.std.proofs.lemmas.Bool.{cases_lt, lt-ltb, ltb-true, and_from, and_left, and_right, and_parts}
+use Rattle.std.proofs.lemmas.Bool.{lt-ltb, ltb-true, and_parts}
 use Rattle.std.proofs.lemmas.List.Elements.{filter-append}
-use Rattle.std.proofs.lemmas.List.FromFn.{length-range_with_len, get_or-range_with_len}
-use Rattle.hpf_own.specs.Owners.{is_after}
-use Rattle.hpf_own.specs.OwnerSet.{bit_of, IsSetOf, IsFirstFrom}
-use Rattle.hpf_own.proofs.Only.{find_first, find_none}
+use Rattle.hpf_own.specs.OwnerSet.{bit_of, IsSetOf}
 
 -- ---- filters of numbers
 filter_skips : (q : ℕ → Bool) (a n : ℕ) → q a ≡ false → filter q (range_with_len a (suc n)) ≡ filter q (range_with_len (a + 1) n)
@@ -71,34 +68,3 @@ in_set q n set k h one =
 pub not_in_set : (q : ℕ → Bool) (n set k : ℕ) → IsSetOf q n set → bit_at set k ≡ 0 → k < n → q k ≡ false
 not_in_set q n set k h none within =
     ap (λ (t : Bool). t && q k) (sym (lt-ltb k n within)) ∙ bit_clear _ (sym (h.bits k) ∙ none)
-
--- ---- the next one
-find-filter_step : (p q : ℕ → Bool) (x : ℕ) (xs : List ℕ) (a b : Bool) → q x ≡ a → p x ≡ b → find p (filter q xs) ≡ find (λ y. q y && p y) xs → find p (filter q (x ∷ xs)) ≡ find (λ y. q y && p y) (x ∷ xs)
-find-filter_step p q x xs true true e f h = rw (e, f) refl
-find-filter_step p q x xs true false e f h = rw (e, f) h
-find-filter_step p q x xs false b e f h = rw e h
-
-find-filter : (p q : ℕ → Bool) (xs : List ℕ) → find p (filter q xs) ≡ find (λ x. q x && p x) xs
-find-filter p q [] = refl
-find-filter p q (x ∷ xs) = find-filter_step p q x xs (q x) (p x) refl refl (find-filter p q xs)
-
--- the first number of a set from one on is the first after another
-pub next_is : (q : ℕ → Bool) (n set from : ℕ) (after r : Option ℕ) → IsSetOf q n set → n ≤ 64 → ((k : ℕ) → k < 64 → from ≤ k → is_after after k ≡ true) → ((k : ℕ) → k < 64 → k < from → is_after after k ≡ false) → IsFirstFrom set from r → r ≡ find (is_after after) (filter q (range_with_len 0 n))
-next_is q n set from after None h few later earlier none =
-    sym (find-filter (is_after after) q (range_with_len 0 n) ∙ find_none (λ x. q x && is_after after x) (range_with_len 0 n) 0 (λ k below.
-    let within : k < n = omega (arith, below, length-range_with_len 0 n) in
-    let at : get_or (range_with_len 0 n) k 0 ≡ k = get_or-range_with_len 0 n k 0 within ∙ zero-add k in
-    rw at (elim (cases_lt k from) [
-      | inl less ↦ and_right (q k) (is_after after k) (earlier k (omega arith) less)
-      | inr more ↦ and_left (q k) (is_after after k) (not_in_set q n set k h (none k more) within)
-    ])))
-next_is q n set from after (Some p) h few later earlier first =
-    let here = in_set q n set p h first.2 in
-    let at : get_or (range_with_len 0 n) p 0 ≡ p = get_or-range_with_len 0 n p 0 here.0 ∙ zero-add p in
-    sym (find-filter (is_after after) q (range_with_len 0 n) ∙ find_first (λ x. q x && is_after after x) (range_with_len 0 n) p 0 (omega (arith, length-range_with_len 0 n)) (λ k less.
-    let within : k < n = omega (arith, here.0) in
-    let at_k : get_or (range_with_len 0 n) k 0 ≡ k = get_or-range_with_len 0 n k 0 within ∙ zero-add k in
-    rw at_k (elim (cases_lt k from) [
-      | inl lower ↦ and_right (q k) (is_after after k) (earlier k (omega arith) lower)
-      | inr more ↦ and_left (q k) (is_after after k) (not_in_set q n set k h (first.3 k more less) within)
-    ])) (rw at (and_from (q p) (is_after after p) here.1 (later p first.1 first.0))) ∙ ap (λ (x : ℕ). Some x) at)

@@ -1,5 +1,5 @@
 -- Numbers of processors, and owners that there are.
-use Rattle.std.proofs.Common.{◌≡◌, ◌==◌, ℕ, zero, suc, ◌+◌, ◌*◌, ◌/◌, ◌%◌, ◌<◌, Bool, true, List, [], ◌∷◌, length, get_or, All, ℤ, pos, arith, sym, ap, ◌∙◌, subst, refl, eq-eqb}
+use Rattle.std.proofs.Common.{◌≡◌, ◌==◌, ℕ, zero, suc, ◌+◌, ◌*◌, ◌/◌, ◌%◌, ◌<◌, Bool, true, List, [], ◌∷◌, length, get_or, ℤ, pos, arith, sym, ap, ◌∙◌, subst, refl, eq-eqb}
 use Rattle.std.specs.List.{list_any}
 use Rattle.std.proofs.lemmas.List.Folds.{list_any_at}
 use Rattle.std.proofs.Math.Nat.{div-add-mod, add-mul-mod_self_left, add-mul-div_left}
@@ -72,11 +72,11 @@ some_coordinate image (Over d axis) index sizes e over own some size stay =
     let below = own first.0 (subst (IsPosition axis) (first.2) (stay 0 first.0 first.1)) in
     (owner_at axis first.0, subst (λ (n : ℕ). owner_at axis first.0 < n) (size ∙ ap (λ (i : ℕ). get_or sizes i 0) (eqb-true d e over)) below, first_held (λ u. owner_at axis u == owner_at axis first.0) (positions image index) first.0 first.1 first.2 (eq-eqb _ _ refl))
 
-pub some_owner : (m : PlainMapping) (index : List ℤ) → IsMapping m → All (λ d. HasOwners d.cut) m.dims → LiesIn m.bounds index → (p : ℕ) × (p < product m.procs) × (owns m p index ≡ true)
-some_owner m index is own lies =
+pub some_owner : (m : PlainMapping) (index : List ℤ) → IsMapping m → LiesIn m.bounds index → (p : ℕ) × (p < product m.procs) × (owns m p index ≡ true)
+some_owner m index is lies =
     let k = passes_some m.procs (holds m.dims index) (λ e within.
     let f = divider m e is.dims within in
     let d = get_or m.dims f.place no_dim in
-    let c = some_coordinate d.image d.cut index m.procs e f.passes (own f.place no_dim f.below) (is.dims.some f.place no_dim f.below) (is.dims.sizes f.place no_dim f.below) (is.dims.within f.place no_dim f.below index lies) in
+    let c = some_coordinate d.image d.cut index m.procs e f.passes (is.owners f.place no_dim f.below) (is.dims.some f.place no_dim f.below) (is.dims.sizes f.place no_dim f.below) (is.dims.within f.place no_dim f.below index lies) in
     (c.0, c.1, rw f.is c.2)) in
     (k.0, k.1, owns-passes m k.0 index is.dims k.1 ∙ k.2)

@@ -94,7 +94,7 @@ pub at_most : (z : ℤ) (k : ℕ) → pos (k + 1) ≤ℤ z → k < or_zero z
 at_most (pos n) k h = omega (arith, ints)
 at_most (negsuc n) k h = absurd (omega (arith, ints))
 
-or_zero_is : (z : ℤ) → pos 0 ≤ℤ z → pos (or_zero z) ≡ z
+pub or_zero_is : (z : ℤ) → pos 0 ≤ℤ z → pos (or_zero z) ≡ z
 or_zero_is (pos n) h = refl
 or_zero_is (negsuc n) h = absurd (omega (arith, ints))
 
@@ -158,7 +158,7 @@ indices_has bounds index h = choices_has (map integers bounds) index (chosen_in 
 pub indices_once : (bounds : List Run) (i j : ℕ) (d : List ℤ) → i < length (indices bounds) → j < length (indices bounds) → get_or (indices bounds) i d ≡ get_or (indices bounds) j d → i ≡ j
 indices_once bounds i j d = choices_once (map integers bounds) i j d (pos 0) (all_once bounds)
 
-extents : (bounds : List Run) → map length (map integers bounds) ≡ map extent bounds
+pub extents : (bounds : List Run) → map length (map integers bounds) ≡ map extent bounds
 extents [] = refl
 extents (run ∷ bounds) =
     let at : ℕ → ℤ = λ k. run.low +ℤ pos k in

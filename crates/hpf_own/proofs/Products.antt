@@ -32,6 +32,16 @@ product-take (n ∷ ns) (suc k) h = mul-le-mul (let same : n ≤ n = omega arith
 pub product_more : (sizes : List ℕ) (i : ℕ) → i < length sizes → product (take (i + 1) sizes) ≡ product (take i sizes) * get_or sizes i 0
 product_more sizes i lt = ap product (take_more sizes i 0 lt) ∙ product-push (take i sizes) (get_or sizes i 0)
 
+-- one of them is no greater
+pub product-one : (ns : List ℕ) (k : ℕ) → All (λ size. 1 ≤ size) ns → k < length ns → get_or ns k 0 ≤ product ns
+product-one [] k h below = absurd (omega arith)
+product-one (n ∷ ns) zero h below =
+    let rest = product-some ns (All-tail (λ size. 1 ≤ size) n ns h) in
+    omega (arith, mul-le-mul (let same : n ≤ n = omega arith in same) rest)
+product-one (n ∷ ns) (suc k) h below =
+    let rest = product-one ns k (All-tail (λ size. 1 ≤ size) n ns h) (omega arith) in
+    omega (arith, mul-le-mul (All-head (λ size. 1 ≤ size) n ns h) (let same : product ns ≤ product ns = omega arith in same))
+
 some_factor : (count size : ℕ) → (count * size ≡ 0 → ⊥) → 1 ≤ size
 some_factor count zero h = absurd (h (omega arith))
 some_factor count (suc n) h = omega arith

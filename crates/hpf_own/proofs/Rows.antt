@@ -1,5 +1,5 @@
 -- Rows worked out by hand, so that a wrong definition is noticed.
-use Rattle.std.proofs.Common.{◌≡◌, ℕ, true, false, List, [], ◌∷◌, map, Some, None, pos, negsuc, refl}
+use Rattle.std.proofs.Common.{◌≡◌, ℕ, true, false, List, [], ◌∷◌, map, slice_get, Some, ℤ, pos, negsuc, refl}
 use Rattle.hpf_num.specs.declared.run.Run.{Run}
 use Rattle.hpf_dist.specs.declared.format.Format.{Format}
 use Rattle.hpf_dist.specs.declared.format.Format.TheVariants.{Block, Cyclic, GenBlock, Indirect}
@@ -11,7 +11,9 @@ use Rattle.hpf_own.specs.declared.image.BaseDim.{BaseDim}
 use Rattle.hpf_own.specs.Space.{indices}
 use Rattle.hpf_own.specs.Image.{images}
 use Rattle.hpf_own.specs.Mapping.{PlainMapping}
-use Rattle.hpf_own.specs.Owners.{coordinates, owners, sender, sends, next_owner}
+use Rattle.hpf_own.specs.Owners.{coordinates, owners, sender, sends}
+use Rattle.hpf_own.specs.Held.{is_held, owned_part, held_part}
+use Rattle.hpf_own.specs.Correspondence.{corresponding}
 
 abbrev run : ℕ → ℕ → Run
 run low high = record { low = pos low; high = pos high }
@@ -57,6 +59,47 @@ owners_of_ten : table ten ≡ (0 ∷ []) ∷ (0 ∷ []) ∷ (0 ∷ []) ∷ (1 �
 unfolding ten
 owners_of_ten = refl
 
+-- what processors hold of it with one element more below and two above, within the bounds
+abbrev elements : List ℕ → List (List ℤ)
+elements ks = map (λ k. pos k ∷ []) ks
+
+shadowed : PlainMapping
+shadowed = record { bounds = run 1 10 ∷ []; dims = dim (Along 0 (pos 1) (pos 0)) (blocks 0 10 4 3) ∷ []; procs = 4 ∷ []; shadow = record { low = 1; high = 2 } ∷ [] }
+
+held_of_ten : map (λ p. (held_part shadowed p).indices) (0 ∷ 1 ∷ 2 ∷ 3 ∷ []) ≡
+    elements (1 ∷ 2 ∷ 3 ∷ 4 ∷ 5 ∷ []) ∷ elements (3 ∷ 4 ∷ 5 ∷ 6 ∷ 7 ∷ 8 ∷ []) ∷ elements (6 ∷ 7 ∷ 8 ∷ 9 ∷ 10 ∷ []) ∷ elements (9 ∷ 10 ∷ []) ∷ []
+unfolding shadowed
+held_of_ten = refl
+
+-- A(10) CYCLIC(2) on P(3): a local place counts the cycles before
+dealt : PlainMapping
+dealt = line 10 (dim (Along 0 (pos 1) (pos 0)) (divided 0 10 3 (Cyclic 2)) ∷ []) (3 ∷ [])
+
+owned_in_turn : map (λ p. (owned_part dealt p).indices) (0 ∷ 1 ∷ 2 ∷ []) ≡ elements (1 ∷ 2 ∷ 7 ∷ 8 ∷ []) ∷ elements (3 ∷ 4 ∷ 9 ∷ 10 ∷ []) ∷ elements (5 ∷ 6 ∷ []) ∷ []
+unfolding dealt
+owned_in_turn = refl
+
+place_of_seven : slice_get (owned_part dealt 0).indices 2 ≡ Some (pos 7 ∷ [])
+unfolding dealt
+place_of_seven = refl
+
+-- A(4,4) (BLOCK,BLOCK) on P(2,2), with one element more on each side: corners are held
+cornered : PlainMapping
+cornered = record {
+  bounds = run 1 4 ∷ run 1 4 ∷ [];
+  dims = dim (Along 0 (pos 1) (pos 0)) (blocks 0 4 2 2) ∷ dim (Along 1 (pos 1) (pos 0)) (blocks 1 4 2 2) ∷ [];
+  procs = 2 ∷ 2 ∷ [];
+  shadow = record { low = 1; high = 1 } ∷ record { low = 1; high = 1 } ∷ [];
+}
+
+corner_held : map (is_held cornered 0) ((pos 2 ∷ pos 3 ∷ []) ∷ (pos 3 ∷ pos 3 ∷ []) ∷ (pos 4 ∷ pos 3 ∷ []) ∷ (pos 1 ∷ pos 4 ∷ []) ∷ []) ≡ true ∷ true ∷ false ∷ false ∷ []
+unfolding cornered
+corner_held = refl
+
+-- under PERMUTE(2,1) from A(2,0:2) to B(3,2): B(3,1) is A(1,2)
+corresponding_turned : corresponding (run 1 2 ∷ run 0 2 ∷ []) (run 1 3 ∷ run 1 2 ∷ []) (2 ∷ 1 ∷ []) (pos 3 ∷ pos 1 ∷ []) ≡ pos 1 ∷ pos 2 ∷ []
+corresponding_turned = refl
+
 -- A(I) with T(11-I), T(10) BLOCK on P(4)
 turned : PlainMapping
 turned = line 10 (dim (Along 0 (negsuc 0) (pos 11)) (blocks 0 10 4 3) ∷ []) (4 ∷ [])
@@ -94,11 +137,6 @@ senders_spread_out = refl
 sender_of_three : sender spread_out (pos 3 ∷ []) ≡ 1
 unfolding spread_out
 sender_of_three = refl
-
--- the owners of element 3, one after another
-next_of_three : map (λ after. next_owner spread_out after (pos 3 ∷ [])) (None ∷ Some 0 ∷ Some 1 ∷ Some 2 ∷ Some 3 ∷ []) ≡ Some 1 ∷ Some 1 ∷ Some 3 ∷ Some 3 ∷ None ∷ []
-unfolding spread_out
-next_of_three = refl
 
 -- A(I) with T(7): one processor owns all, and the array's dimension is collapsed
 owners_fixed : table (line 3 (dim (Fixed (pos 7)) (blocks 0 10 4 3) ∷ []) (4 ∷ [])) ≡ (2 ∷ []) ∷ (2 ∷ []) ∷ (2 ∷ []) ∷ []

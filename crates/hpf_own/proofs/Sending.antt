@@ -12,18 +12,18 @@ use Rattle.hpf_own.proofs.Each.{owns_digits, owns_from}
 pub first_skips : (q : ℕ → Bool) (a n : ℕ) → q a ≡ false → filter q (range_with_len a (suc n)) ≡ filter q (range_with_len (a + 1) n)
 first_skips q a n e = rw e refl
 
-pub first_stays : (q : ℕ → Bool) (a n : ℕ) → q a ≡ true → get_or (filter q (range_with_len a (suc n))) 0 0 ≡ a
-first_stays q a n e = rw e refl
+pub first_stays : (q : ℕ → Bool) (a n d : ℕ) → q a ≡ true → get_or (filter q (range_with_len a (suc n))) 0 d ≡ a
+first_stays q a n d e = rw e refl
 
-pub first_is : (q : ℕ → Bool) (a n p : ℕ) → a ≤ p → p < a + n → q p ≡ true → ((j : ℕ) → j < p → q j ≡ false) → get_or (filter q (range_with_len a n)) 0 0 ≡ p
-first_is q a zero p low high h before = absurd (omega arith)
-first_is q a (suc n) p low high h before =
+pub first_is : (q : ℕ → Bool) (a n p d : ℕ) → a ≤ p → p < a + n → q p ≡ true → ((j : ℕ) → j < p → q j ≡ false) → get_or (filter q (range_with_len a n)) 0 d ≡ p
+first_is q a zero p d low high h before = absurd (omega arith)
+first_is q a (suc n) p d low high h before =
     elim (cases_lt a p) [
       | inl less ↦
-          ap (λ (ps : List ℕ). get_or ps 0 0) (first_skips q a n (before a less)) ∙ first_is q (a + 1) n p (omega arith) (omega arith) h before
+          ap (λ (ps : List ℕ). get_or ps 0 d) (first_skips q a n (before a less)) ∙ first_is q (a + 1) n p d (omega arith) (omega arith) h before
       | inr more ↦
           let same : p ≡ a = omega arith in
-          first_stays q a n (subst (λ (j : ℕ). q j ≡ true) same h) ∙ sym same
+          first_stays q a n d (subst (λ (j : ℕ). q j ≡ true) same h) ∙ sym same
     ]
 
 -- coordinates that are least in each dimension make the sender
@@ -39,4 +39,4 @@ sender_from m p index dims below least =
       | inr higher ↦ higher
     ]) in
     absurd (omega arith)) in
-    (owned, first_is (λ j. owns m j index) 0 (product m.procs) p (omega arith) (omega arith) owned before)
+    (owned, first_is (λ j. owns m j index) 0 (product m.procs) p (product m.procs) (omega arith) (omega arith) owned before)

@@ -80,32 +80,32 @@ not_there q a j low failed passed =
       | inr more ↦ absurd (false≢true (sym failed ∙ ap q (let z : a ≡ j = omega arith in z) ∙ passed))
     ]
 
-first_least_from : (q : ℕ → Bool) (a n j : ℕ) → a ≤ j → j < a + n → q j ≡ true → get_or (filter q (range_with_len a n)) 0 0 ≤ j
-first_least_from q a zero j low high h = absurd (omega arith)
-first_least_from q a (suc n) j low high h =
+first_least_from : (q : ℕ → Bool) (a n j d : ℕ) → a ≤ j → j < a + n → q j ≡ true → get_or (filter q (range_with_len a n)) 0 d ≤ j
+first_least_from q a zero j d low high h = absurd (omega arith)
+first_least_from q a (suc n) j d low high h =
     elim (cases_Bool (q a)) [
-      | inl passed ↦ omega (arith, first_stays q a n passed)
+      | inl passed ↦ omega (arith, first_stays q a n d passed)
       | inr failed ↦
           let later : a < j = not_there q a j low failed h in
-          omega (arith, first_least_from q (a + 1) n j (omega arith) (omega arith) h, ap (λ (ps : List ℕ). get_or ps 0 0) (first_skips q a n failed))
+          omega (arith, first_least_from q (a + 1) n j d (omega arith) (omega arith) h, ap (λ (ps : List ℕ). get_or ps 0 d) (first_skips q a n failed))
     ]
 
 -- and it passes
-first_passes_from : (q : ℕ → Bool) (a n j : ℕ) → a ≤ j → j < a + n → q j ≡ true → q (get_or (filter q (range_with_len a n)) 0 0) ≡ true
-first_passes_from q a zero j low high h = absurd (omega arith)
-first_passes_from q a (suc n) j low high h =
+first_passes_from : (q : ℕ → Bool) (a n j d : ℕ) → a ≤ j → j < a + n → q j ≡ true → q (get_or (filter q (range_with_len a n)) 0 d) ≡ true
+first_passes_from q a zero j d low high h = absurd (omega arith)
+first_passes_from q a (suc n) j d low high h =
     elim (cases_Bool (q a)) [
-      | inl passed ↦ ap q (first_stays q a n passed) ∙ passed
+      | inl passed ↦ ap q (first_stays q a n d passed) ∙ passed
       | inr failed ↦
           let later : a < j = not_there q a j low failed h in
-          ap q (ap (λ (ps : List ℕ). get_or ps 0 0) (first_skips q a n failed)) ∙ first_passes_from q (a + 1) n j (omega arith) (omega arith) h
+          ap q (ap (λ (ps : List ℕ). get_or ps 0 d) (first_skips q a n failed)) ∙ first_passes_from q (a + 1) n j d (omega arith) (omega arith) h
     ]
 
-pub first_passes : (q : ℕ → Bool) (n j : ℕ) → j < n → q j ≡ true → q (get_or (filter q (range_with_len 0 n)) 0 0) ≡ true
-first_passes q n j below h = first_passes_from q 0 n j (omega arith) (omega arith) h
+pub first_passes : (q : ℕ → Bool) (n j d : ℕ) → j < n → q j ≡ true → q (get_or (filter q (range_with_len 0 n)) 0 d) ≡ true
+first_passes q n j d below h = first_passes_from q 0 n j d (omega arith) (omega arith) h
 
-pub first_least : (q : ℕ → Bool) (n j : ℕ) → j < n → q j ≡ true → get_or (filter q (range_with_len 0 n)) 0 0 ≤ j
-first_least q n j below h = first_least_from q 0 n j (omega arith) (omega arith) h
+pub first_least : (q : ℕ → Bool) (n j d : ℕ) → j < n → q j ≡ true → get_or (filter q (range_with_len 0 n)) 0 d ≤ j
+first_least q n j d below h = first_least_from q 0 n j d (omega arith) (omega arith) h
 
 -- the sender of an element leads
 pub sender_leads : (m : PlainMapping) (p : ℕ) (index : List ℤ) → IsMapping m → p < product m.procs → LiesIn m.bounds index → owns m p index ≡ true → sender m index ≡ p → LeadsAll m p
@@ -125,7 +125,7 @@ sender_leads m p index is below lies owned first =
       | inl same ↦ rw (same, get_or-set_same (digits m.procs p) e j 0 (omega (arith, length-digits m.procs p)), f.is) other
       | inr apart ↦ rw (get_or-set_other (digits m.procs p) e i j 0 apart) (held i inside)
     ])) in
-    absurd (let z : sender m index ≤ q = first_least (λ k. owns m k index) (product m.procs) q (omega (arith, lower.1)) owner in omega (arith, lower.1, first))) in
+    absurd (let z : sender m index ≤ q = first_least (λ k. owns m k index) (product m.procs) q (product m.procs) (omega (arith, lower.1)) owner in omega (arith, lower.1, first))) in
     rw f.is (leads_here d.image d.cut m.bounds index e c lies (is.dims.followed f.place no_dim f.below) f.passes holding least)
 
 -- ---- an element that a processor sends
@@ -221,6 +221,22 @@ leads_some m p is below leads =
     least_found m.dims index e d (get_or at e 0) f.is (least_here d.image d.cut m.bounds index e (get_or at e 0) f.passes here held)) in
     (index, i.1, s.0, s.1)
 
+-- ---- the sender is the processor that sends and owns
+pub sender_below : (m : PlainMapping) (p : ℕ) (index : List ℤ) → p < product m.procs → owns m p index ≡ true → sender m index < product m.procs
+sender_below m p index below h =
+    let l = first_least (λ q. owns m q index) (product m.procs) p (product m.procs) below h in
+    omega arith
+
+pub sender_owns : (m : PlainMapping) (p : ℕ) (index : List ℤ) → p < product m.procs → owns m p index ≡ true → owns m (sender m index) index ≡ true
+sender_owns m p index below h = first_passes (λ q. owns m q index) (product m.procs) p (product m.procs) below h
+
+pub sends_from : (m : PlainMapping) (p : ℕ) (index : List ℤ) → LiesIn m.bounds index → owns m p index ≡ true → sender m index ≡ p → sends m p ≡ true
+sends_from m p index lies owned is =
+    let test : List ℤ → Bool = λ index. owns m p index && (sender m index == p) in
+    let place = indices_has m.bounds index lies in
+    list_any_at test (indices m.bounds) place.0 index place.1
+    (ap test place.2 ∙ and_from (owns m p index) (sender m index == p) owned (eq-eqb _ _ is))
+
 -- ---- so a processor sends where its coordinates lead
 pub sends_leads : (m : PlainMapping) (p : ℕ) → IsMapping m → p < product m.procs → sends m p ≡ true → LeadsAll m p
 sends_leads m p is below h =
@@ -234,11 +250,7 @@ sends_leads m p is below h =
 pub leads_sends : (m : PlainMapping) (p : ℕ) → IsMapping m → p < product m.procs → LeadsAll m p → sends m p ≡ true
 leads_sends m p is below leads =
     let s = leads_some m p is below leads in
-    let index = s.0 in
-    let test : List ℤ → Bool = λ index. owns m p index && (sender m index == p) in
-    let place = indices_has m.bounds index s.1 in
-    list_any_at test (indices m.bounds) place.0 index place.1
-    (ap test place.2 ∙ and_from (owns m p index) (sender m index == p) s.2 (eq-eqb _ _ s.3))
+    sends_from m p s.0 s.1 s.2 s.3
 
 -- ---- the loop over the dimensions of the arrangement
 pub record IsLedSoFar (m : PlainMapping) (p : ℕ) (sizes : List ℕ) (e rest : ℕ) : Type 0 where

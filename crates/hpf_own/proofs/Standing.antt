@@ -12,7 +12,7 @@ use Rattle.hpf_own.specs.declared.widths.Width.{Width}
 use Rattle.hpf_own.specs.KeptLists.{no_width}
 use Rattle.hpf_own.specs.Space.{indices, product, LiesIn}
 use Rattle.hpf_own.specs.Image.{subscript}
-use Rattle.hpf_own.specs.Mapping.{PlainMapping, IsMapping, HasOwners}
+use Rattle.hpf_own.specs.Mapping.{PlainMapping, IsMapping}
 use Rattle.hpf_own.specs.Owners.{owns}
 use Rattle.hpf_own.specs.Held.{Part, IsMadeOf, is_around, is_held, owned_part}
 use Rattle.hpf_own.proofs.Indices.{LiesIn-length}
@@ -76,9 +76,9 @@ kept_has {A} p xs x h passes =
     (k, slice_get_within (filter p xs) k _ at, get_or_from_slice_get (filter p xs) k _ x at ∙ h.2)
 
 -- each element is in some part
-pub some_part : (m : PlainMapping) (index : List ℤ) → IsMapping m → All (λ d. HasOwners d.cut) m.dims → LiesIn m.bounds index → (p : ℕ) × (p < product m.procs) × Contains (owned_part m p).indices index
-some_part m index is owners lies =
-    let o = some_owner m index is owners lies in
+pub some_part : (m : PlainMapping) (index : List ℤ) → IsMapping m → LiesIn m.bounds index → (p : ℕ) × (p < product m.procs) × Contains (owned_part m p).indices index
+some_part m index is lies =
+    let o = some_owner m index is lies in
     (o.0, o.1, kept_has (owns m o.0) (indices m.bounds) index (indices_has m.bounds index lies) o.2)
 
 -- ---- shadows

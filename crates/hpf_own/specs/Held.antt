@@ -1,7 +1,7 @@
 -- What a processor owns and holds of a mapped array.
 use Rattle.std.specs.Prelude.{ℕ, ◌≡◌, ◌^◌, ◌≤◌, Bool, true, false, ◌&&◌, ◌⊎◌, List, [], ◌∷◌, length, filter, All, ℤ}
 use Rattle.std.specs.List.{list_any}
-use Rattle.hpf_num.specs.Runs.{is_near}
+use Rattle.hpf_num.specs.Runs.{AreMembers, is_near}
 use Rattle.hpf_own.specs.declared.widths.Width.{Width}
 use Rattle.hpf_own.specs.Space.{choices, indices}
 use Rattle.hpf_own.specs.Mapping.{PlainMapping}
@@ -37,15 +37,17 @@ held_part m p = record { rank = length m.bounds; indices = filter (is_held m p) 
 abbrev pub AreAllOrNone : {A : Type 0} → List (List A) → Type 0
 AreAllOrNone lists = All (λ xs. 1 ≤ length xs) lists ⊎ All (λ xs. length xs ≡ 0) lists
 
--- A part is every index made of one integer of each of these lists, which are all empty where it is.
+-- A part is every index made of one integer of each of these ascending lists, which are all empty where it is.
 pub record IsMadeOf (part : Part) (lists : List (List ℤ)) : Type 0 where
   pub rank : part.rank ≡ length lists
   pub every : part.indices ≡ choices lists
+  pub members : All AreMembers lists
   pub all_or_none : AreAllOrNone lists
 
 -- lists of which a part may be made (this project's limits)
 pub record AreSides (lists : List (List ℤ)) : Type 0 where
   pub some : 1 ≤ length lists
   pub short : length lists ≤ 7
+  pub members : All AreMembers lists
   pub all_or_none : AreAllOrNone lists
   pub few : length (choices lists) ≤ 2 ^ 24

@@ -9,4 +9,6 @@ pub mod OwnerSet
 pub mod Held
 pub mod Side
 pub mod Walk
+pub mod Places
+pub mod Correspondence
 pub mod Members

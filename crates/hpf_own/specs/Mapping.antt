@@ -4,7 +4,7 @@ use Rattle.hpf_num.specs.declared.run.Run.{Run}
 use Rattle.hpf_num.specs.Run.{extent}
 use Rattle.hpf_dist.specs.Axis.{Divided}
 use Rattle.hpf_dist.specs.declared.format.Format.TheVariants.{Block}
-use Rattle.hpf_dist.specs.Spread.{IsPosition, owner_at}
+use Rattle.hpf_dist.specs.Spread.{IsPosition, HasOwners as AxisHasOwners}
 use Rattle.hpf_own.specs.declared.image.Image.{Image}
 use Rattle.hpf_own.specs.declared.image.Image.TheVariants.{Along, Fixed, Spread}
 use Rattle.hpf_own.specs.declared.image.Cut.{Cut}
@@ -113,6 +113,11 @@ pub record AreDims (bounds : List Run) (dims : List BaseDim) (procs : List ℕ) 
   pub coefficients : All (λ d. HasSmallCoefficients d.image) dims
   pub some : All (λ d. HasSome d.image) dims
 
+-- each position of a divided dimension is owned at one of its coordinates
+abbrev pub HasOwners : Cut → Type 0
+HasOwners Whole = Unit {0}
+HasOwners (Over dim axis) = AxisHasOwners axis
+
 -- a mapping that may be
 pub record IsMapping (m : PlainMapping) : Type 0 where
   pub bounds : IsBounds m.bounds
@@ -121,11 +126,7 @@ pub record IsMapping (m : PlainMapping) : Type 0 where
   pub dims : AreDims m.bounds m.dims m.procs
   pub one_width : length m.shadow ≡ length m.bounds
   pub widths : All IsSmallWidth m.shadow
-
--- each position of a divided dimension is owned at one of its coordinates
-abbrev pub HasOwners : Cut → Type 0
-HasOwners Whole = Unit {0}
-HasOwners (Over dim axis) = (t : ℤ) → IsPosition axis t → owner_at axis t < axis.procs
+  pub owners : All (λ d. HasOwners d.cut) m.dims
 
 -- a dimension of a base with the one position 1, divided over one processor
 abbrev pub one_position : BaseDim

@@ -1,5 +1,5 @@
 -- Owners and senders of the elements of a mapped array.
-use Rattle.std.specs.Prelude.{ℕ, ◌≡◌, ◌<◌, Bool, true, false, ◌&&◌, ◌==◌, nat_lt, List, [], ◌∷◌, map, filter, find, slice_index, slice_index_or, All, Option, Some, None, ℤ, ◌+ℤ◌, ◌*ℤ◌}
+use Rattle.std.specs.Prelude.{ℕ, ◌≡◌, ◌<◌, Bool, true, false, ◌&&◌, ◌==◌, List, [], ◌∷◌, map, filter, find, slice_index, slice_index_or, All, Option, Some, None, ℤ, ◌+ℤ◌, ◌*ℤ◌}
 use Rattle.std.specs.List.{range_with_len, list_any}
 use Rattle.hpf_dist.specs.Axis.{Divided}
 use Rattle.hpf_dist.specs.Spread.{owner_at, spread}
@@ -46,22 +46,14 @@ owns m p index = list_any (is_owned_whole m.dims (coordinates m.procs p)) (image
 abbrev pub owners : PlainMapping → List ℤ → List ℕ
 owners m index = filter (λ p. owns m p index) (numbers m.procs)
 
--- the sender of an element: its owner with the least number (this project defines it)
+-- The sender of an element: its owner with the least number, or a number that is no processor's where it has no owner
+-- (this project defines it).
 abbrev pub sender : PlainMapping → List ℤ → ℕ
-sender m index = slice_index (owners m index) 0
+sender m index = slice_index_or (owners m index) 0 (product m.procs)
 
 -- a processor sends where it owns some element and is its sender
 abbrev pub sends : PlainMapping → ℕ → Bool
 sends m p = list_any (λ index. owns m p index && (sender m index == p)) (indices m.bounds)
-
--- whether a number comes after another, or after none
-abbrev pub is_after : Option ℕ → ℕ → Bool
-is_after None p = true
-is_after (Some q) p = nat_lt q p
-
--- the owner that comes next after a processor, or the first one
-abbrev pub next_owner : PlainMapping → Option ℕ → List ℤ → Option ℕ
-next_owner m after index = find (is_after after) (owners m index)
 
 -- One processor owns all of an array with these bounds, which has no shadow.
 pub record IsWhole (bounds : List Run) (m : PlainMapping) : Type 0 where

@@ -1,5 +1,5 @@
 -- Index spaces.
-use Rattle.std.specs.Prelude.{ℕ, ◌*◌, ◌<◌, List, [], ◌∷◌, map, ℤ}
+use Rattle.std.specs.Prelude.{ℕ, ◌≡◌, ◌*◌, ◌<◌, List, [], ◌∷◌, length, map, slice_index_or, ℤ}
 use Rattle.std.specs.List.{flat_map}
 use Rattle.hpf_num.specs.declared.run.Run.{Run}
 use Rattle.hpf_num.specs.Run.{integers, extent, LiesWithin}
@@ -13,6 +13,10 @@ choices (items ∷ rest) = flat_map (λ chosen. map (λ item. item ∷ chosen) i
 -- the indices of an array, in element order: the first subscript varies fastest (Fortran 90, array element order)
 abbrev pub indices : List Run → List (List ℤ)
 indices bounds = choices (map integers bounds)
+
+-- each item of a list stands in one place
+abbrev pub StandOnce : {A : Type 0} → List A → Type 0
+StandOnce {A} items = (i j : ℕ) (d : A) → i < length items → j < length items → slice_index_or items i d ≡ slice_index_or items j d → i ≡ j
 
 -- an index lies in the bounds: an integer within each
 abbrev pub LiesIn : List Run → List ℤ → Type 0

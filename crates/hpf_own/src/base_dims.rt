@@ -1,6 +1,7 @@
 //! The dimensions of a base.
 
-ghost use Rattle.std.specs.Prelude.{◌≡◌, [], ◌∷◌, ◌++◌, OnOk, OnErr};
+ghost use Rattle.std.specs.Prelude.{◌≡◌, [], ◌∷◌, ◌++◌, All, OnOk, OnErr};
+ghost use Rattle.hpf_own.specs.Mapping.{HasOwners};
 
 use crate::image::BaseDim;
 use std::alloc::{AllocError, Global};
@@ -19,6 +20,11 @@ impl Model for BaseDims {
     ghost Value = { List BaseDim };
 
     ghost view = { λ dims. dims.dims.items };
+
+    ghost use Rattle.std.specs.Prelude.{All};
+    ghost use Rattle.hpf_own.specs.Mapping.{HasOwners};
+
+    ghost invariant = { λ dims. All (λ d. HasOwners d.cut) dims.dims.items };
 }
 
 impl BaseDims {
@@ -36,13 +42,16 @@ impl BaseDims {
         ensures ok { OnOk result (self.new ≡ self.old ++ dim ∷ []) }
         ensures err { OnErr result (self.new ≡ self.old) }
     {
+        // (an axis has owners, as every axis does)
+        let _ = dim.procs();
         self.dims.push(dim)?;
         Ok(())
     }
 
-    /// The dimensions.
+    /// The dimensions. Each position of one that is divided has an owner.
     pub fn as_slice(&self) -> &[BaseDim]
-        ensures { result.now ≡ self.now }
+        ensures same { result.now ≡ self.now }
+        ensures owners { All (λ d. HasOwners d.cut) self.now }
     {
         self.dims.as_slice()
     }

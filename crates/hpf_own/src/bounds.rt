@@ -80,8 +80,7 @@ impl Bounds {
         }
     }
 
-    /// Goes on to the next index of the element order, and answers whether there is one. After the last index comes the
-    /// first one again.
+    /// Goes on to the next index of the element order, and answers whether there is one.
     pub fn next_index(&self, index: &mut [i64]) -> bool
         requires { LiesIn self.now index.old }
         ensures next { (k : ℕ) → IsIndexAt self.now k index.old true → IsIndexAt self.now (k + 1) index.new result }

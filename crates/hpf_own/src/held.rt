@@ -1,7 +1,9 @@
 //! What a processor owns or holds of an array.
 
 ghost use Rattle.std.specs.Prelude.{IsTrue, replicate, ◌≡◌, ℕ, ◌^◌, ◌<◌, ◌≤◌, [], length, slice_get, Some, Contains, IsSome, IfOk, IfSome, ◌↔◌, All, List, ℤ};
-ghost use Rattle.hpf_own.specs.Space.{choices};
+ghost use Rattle.std.specs.Bool.{OnTrue};
+ghost use Rattle.hpf_num.specs.Runs.{AreMembers};
+ghost use Rattle.hpf_own.specs.Space.{choices, StandOnce};
 ghost use Rattle.hpf_own.specs.Image.{subscript};
 ghost use Rattle.hpf_own.specs.Held.{Part, IsMadeOf, AreSides};
 
@@ -29,10 +31,14 @@ impl Model for Held {
 }
 
 impl Held {
-    /// The number of dimensions of the array.
+    /// The number of dimensions of the array, at least one and at most seven. There are at most 2^24 elements, each with
+    /// an index of its own.
     pub fn rank(&self) -> u32
         ensures rank { result ≡ self.now.rank }
+        ensures some { 1 ≤ result }
         ensures short { result ≤ 7 }
+        ensures few { length self.now.indices ≤ 2 ^ 24 }
+        ensures once { StandOnce self.now.indices }
     {
         self.sides.len() as u32
     }
@@ -127,9 +133,15 @@ fn nth_of(side: &Runs, k: u64) -> i64
 
 /// Whether each of these lists has a member.
 fn have_members(sides: &[Runs]) -> bool
-    ensures { IsTrue result ↔ All (λ side. 1 ≤ length side) sides.now }
+    ensures some { IsTrue result ↔ All (λ side. 1 ≤ length side) sides.now }
+    ensures members { OnTrue result (All AreMembers sides.now) }
 {
-    sides.iter().all(|side| side.count() > 0)
+    for side in sides {
+        if side.count() == 0 {
+            return false;
+        }
+    }
+    true
 }
 
 /// So many lists with no member.

@@ -1,11 +1,10 @@
 //! One dimension of a base.
 
 ghost use Rattle.std.specs.Prelude.{◌≡◌, ◌==◌, ◌<◌, ◌≤◌, ◌-◌, ◌^◌, length, All, unsigned_abs, pos, neg_ℤ, ◌≤ℤ◌, ◌+◌, ◌↔◌, IsTrue};
-ghost use Rattle.hpf_num.specs.Run.{extent};
 ghost use Rattle.std.specs.List.{list_any};
 ghost use Rattle.hpf_dist.specs.Spread.{IsPosition, owner_at, spread};
 ghost use Rattle.hpf_own.specs.Image.{positions};
-ghost use Rattle.hpf_own.specs.Mapping.{FollowsBelow, HasSmallCoefficients, HasSome, divides, HasPositions, CanLead, CanLeadAt};
+ghost use Rattle.hpf_own.specs.Mapping.{FollowsBelow, HasSmallCoefficients, HasSome, HasOwners, divides, HasPositions, CanLead, CanLeadAt};
 ghost use Rattle.hpf_own.specs.Owners.{holds_at, IsLeast, IsCoordinate, Leads, LeadsAt};
 
 use hpf_dist::Axis;
@@ -63,22 +62,12 @@ impl Image {
         match *self {
             Image::Along { dim, a, b } => {
                 let run = bounds[dim as usize];
-                axis.owns_any(c, a * run.low + b, a, extent_of(run))
+                axis.owns_any(c, a * run.low + b, a, run.extent())
             }
             Image::Fixed(n) => axis.owner(n) == c,
             Image::Spread { first, step, count } => least_of(axis, first, step, count) == c,
         }
     }
-}
-
-/// How many integers the run has.
-fn extent_of(run: Run) -> u64
-    requires least { neg_ℤ (pos (2 ^ 31 - 1)) ≤ℤ run.low }
-    requires greatest { run.high ≤ℤ pos (2 ^ 31 - 1) }
-    requires order { run.low ≤ℤ run.high }
-    ensures { result ≡ extent run }
-{
-    (run.high - run.low) as u64 + 1
 }
 
 /// The least coordinate that owns one of these positions.
@@ -115,6 +104,16 @@ pub struct BaseDim {
 }
 
 impl BaseDim {
+    /// Over how many processors it is divided, if it is.
+    pub(crate) fn procs(&self) -> Option<u32>
+        ensures { HasOwners self.now.cut }
+    {
+        match &self.cut {
+            Cut::Whole => None,
+            Cut::Over { axis, .. } => Some(axis.procs()),
+        }
+    }
+
     /// Whether it is divided over dimension `dim` of the arrangement.
     pub(crate) fn is_over(&self, dim: u32) -> bool
         ensures { result ≡ divides dim self.now.cut }

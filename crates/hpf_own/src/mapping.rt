@@ -2,17 +2,17 @@
 
 mod parts;
 
-ghost use Rattle.std.specs.Prelude.{◌≡◌, ◌+◌, ◌*◌, ◌^◌, ◌<◌, ◌≤◌, ℕ, length, filter, slice_index, All, IsTrue, IfOk, ◌↔◌, find};
+ghost use Rattle.std.specs.Prelude.{◌≡◌, ◌+◌, ◌*◌, ◌^◌, ◌<◌, ◌≤◌, ℕ, List, ℤ, length, slice_index, All, IsTrue, IfOk, ◌↔◌, find};
 ghost use Rattle.hpf_own.specs.Space.{LiesIn, product};
 ghost use Rattle.hpf_own.specs.Lists.{IsBounds, IsSizes};
-ghost use Rattle.hpf_own.specs.Mapping.{IsMapping, AreInLimits, IsSmallWidth, IsOnePosition, FollowsBelow, follows, DividedBelow, divides, HasSizeOf, StaysWithin, HasSmallCoefficients, HasSome};
-ghost use Rattle.hpf_own.specs.Owners.{owns, owners, next_owner, sender, sends, holds, IsLeast, LeadsOf, IsWhole};
+ghost use Rattle.hpf_own.specs.Mapping.{IsMapping, AreInLimits, IsSmallWidth, IsOnePosition, AreDims, divides};
+ghost use Rattle.hpf_own.specs.Owners.{owns, owners, sender, sends, holds, IsLeast, LeadsOf, IsWhole};
 ghost use Rattle.hpf_own.specs.OwnerSet.{IsSetOf, IsRepeated};
 
 use crate::base_dims::BaseDims;
 use crate::bounds::Bounds;
 use crate::image::{BaseDim, Cut, Image};
-use crate::owner_set::{OwnerSet, first_from};
+use crate::owner_set::OwnerSet;
 use crate::procs::Procs;
 use crate::sizes::Sizes;
 use crate::widths::Widths;
@@ -47,19 +47,12 @@ impl Mapping {
         requires limits { AreInLimits bounds }
         requires one_width { length shadow ≡ length bounds }
         requires widths { All IsSmallWidth shadow }
-        requires followed { All (λ d. FollowsBelow (length bounds) d.image) dims }
-        requires divided { All (λ d. DividedBelow (length procs) d.cut) dims }
-        requires once { (e : ℕ) → length (filter (λ d. follows e d.image) dims) ≤ 1 }
-        requires each_once { (e : ℕ) → e < length procs
-            → length (filter (λ d. divides e d.cut) dims) ≡ 1 }
-        requires sizes { All (λ d. HasSizeOf procs d.cut) dims }
-        requires within { All (λ d. StaysWithin bounds d.image d.cut) dims }
-        requires coefficients { All (λ d. HasSmallCoefficients d.image) dims }
-        requires some { All (λ d. HasSome d.image) dims }
+        requires dims { AreDims bounds dims procs }
         ensures { result ≡ record { bounds = bounds; dims = dims; procs = procs; shadow = shadow } }
     {
-        // (bounds and sizes are well formed, as every such list is)
+        // (bounds, dimensions and sizes are well formed, as every such list is)
         let _ = bounds.as_slice();
+        let _ = dims.as_slice();
         let _ = procs.as_slice();
         Mapping {
             bounds,
@@ -80,10 +73,12 @@ impl Mapping {
         Ok(Mapping::new(bounds, dims, Sizes::one(), shadow))
     }
 
-    /// The bounds of the array.
+    /// The bounds of the array. Each of its elements has an owner.
     pub fn bounds(&self) -> &Bounds
         ensures same { result.now ≡ self.now.bounds }
         ensures mapping { IsMapping self.now }
+        ensures owner { (index : List ℤ) → LiesIn self.now.bounds index
+            → (p : ℕ) × (p < product self.now.procs) × IsTrue (owns self.now p index) }
     {
         &self.bounds
     }
@@ -158,31 +153,12 @@ impl Mapping {
         false
     }
 
-    /// The owner of the element that comes next after processor `after`, or the first one where that is None.
-    pub fn next_owner(&self, after: Option<u32>, index: &[i64]) -> Option<u32>
-        requires { LiesIn self.now.bounds index.now }
-        ensures { result ≡ next_owner self.now after index.now }
-    {
-        let set = self.owner_bits(index);
-        match after {
-            None => first_from(set, 0),
-            Some(p) => first_from(set, p.min(63) + 1),
-        }
-    }
-
     /// The owners of the element, ascending.
     pub fn owners(&self, alloc: Global, index: &[i64]) -> Result<Procs, AllocError>
         requires { LiesIn self.now.bounds index.now }
         ensures { IfOk result (λ procs. procs ≡ owners self.now index.now) }
     {
-        let set = self.owner_bits(index);
-        let mut procs = Procs::new(alloc);
-        let mut from = 0;
-        while let Some(p) = first_from(set, from) {
-            procs.push(p)?;
-            from = p + 1;
-        }
-        Ok(procs)
+        Procs::from_slice(alloc, self.owner_set(index).as_slice())
     }
 
     /// The owners of the element. No memory is taken.

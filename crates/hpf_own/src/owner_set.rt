@@ -1,48 +1,56 @@
-//! Sets of processors, as the bits of a number.
+//! Sets of processors.
 
-ghost use Rattle.std.specs.Prelude.{◌≡◌, ◌^◌, ◌<◌, [], ◌∷◌, MatchOption};
+ghost use Rattle.std.specs.Prelude.{◌≡◌};
 ghost use Rattle.hpf_own.specs.OwnerSet.{IsFirstFrom};
-ghost use Rattle.hpf_own.specs.Members.{members_from};
+ghost use Rattle.hpf_own.specs.Members.{members};
 
 use std::marker::Model;
 
 /// The owners of an element. It is seen as the ascending list of their numbers.
 #[derive(Drop)]
 pub struct OwnerSet {
-    bits: u64,
-    // numbers below this one are taken out
-    from: u32,
+    numbers: [u32; 64],
+    count: u8,
 }
 
 impl Model for OwnerSet {
-    ghost use Rattle.std.specs.Prelude.{ℕ, List};
-    ghost use Rattle.hpf_own.specs.Members.{members_from};
+    ghost use Rattle.std.specs.Prelude.{ℕ, List, take};
+    ghost use Rattle.hpf_own.specs.Members.{FitsIn};
 
     ghost Value = { List ℕ };
 
-    ghost view = { λ set. members_from set.bits set.from };
+    ghost view = { λ set. take set.count set.numbers };
+
+    ghost invariant = { λ set. FitsIn set.numbers set.count };
 }
 
 impl OwnerSet {
-    /// The numbers that these bits have.
+    /// The numbers of the bits that are set.
     pub(crate) fn new(bits: u64) -> OwnerSet
-        ensures { result ≡ members_from bits 0 }
+        ensures { result ≡ members bits }
     {
-        OwnerSet { bits, from: 0 }
+        let mut numbers = [0; 64];
+        let mut count = 0u8;
+        let mut from = 0;
+        while let Some(p) = first_from(bits, from) {
+            numbers[usize::from(count)] = p;
+            count += 1;
+            from = p + 1;
+        }
+        OwnerSet { numbers, count }
     }
 
-    /// Takes out the least number. None where there is none left.
-    pub fn pop_first(&mut self) -> Option<u32>
-        ensures { MatchOption result ((self.old ≡ []) × (self.new ≡ [])) (λ p. self.old ≡ p ∷ self.new) }
+    /// The numbers, ascending.
+    pub fn as_slice(&self) -> &[u32]
+        ensures { result.now ≡ self.now }
     {
-        let first = first_from(self.bits, self.from)?;
-        self.from = first + 1;
-        Some(first)
+        let count = usize::from(self.count);
+        &self.numbers[..count]
     }
 }
 
 /// The least number of the set that isn't below `from`.
-pub fn first_from(set: u64, from: u32) -> Option<u32>
+fn first_from(set: u64, from: u32) -> Option<u32>
     ensures { IsFirstFrom set from result }
 {
     if from >= 64 {

@@ -1,9 +1,13 @@
 //! A permutation of the dimensions of an array.
 
-ghost use Rattle.std.specs.Prelude.{◌≡◌, ◌≤◌, ◌↔◌, length, IsSome, IfSome, IsTrue, IsPermutation};
+ghost use Rattle.std.specs.Prelude.{◌≡◌, ◌≤◌, ◌↔◌, ◌-◌, ◌^◌, pos, ◌+ℤ◌, ◌-ℤ◌, ◌≤ℤ◌, length, IsSome, IfSome, IsTrue, IsPermutation};
 ghost use Rattle.std.specs.List.{range_with_len};
+ghost use Rattle.hpf_own.specs.Space.{LiesIn};
 ghost use Rattle.hpf_own.specs.Lists.{IsPerm, IsShort};
+ghost use Rattle.hpf_own.specs.Mapping.{AreInLimits};
+ghost use Rattle.hpf_own.specs.Correspondence.{ExtentsAgree, corresponding};
 
+use crate::bounds::Bounds;
 use std::marker::Model;
 
 /// A permutation of the dimensions of an array, counted from 1. It is seen as the list of them, at least one and at most
@@ -68,6 +72,23 @@ impl Perm {
         }
     }
 
+    /// Writes the index of the array before that corresponds to an index of the array that receives, whose dimension `d` is
+    /// the dimension of the array before that stands at `d` here. Both lie equally far above the lower bounds.
+    pub fn corresponding(&self, from: &Bounds, to: &Bounds, index: &[i64], into: &mut [i64])
+        requires before { AreInLimits from.now }
+        requires receiving { AreInLimits to.now }
+        requires agree { ExtentsAgree from.now to.now self.now }
+        requires index { LiesIn to.now index.now }
+        requires rank { length into.old ≡ length self.now }
+        ensures same { into.new ≡ corresponding from.now to.now self.now index.now }
+        ensures lies { LiesIn from.now into.new }
+    {
+        for (d, dim) in self.as_slice().iter().enumerate() {
+            let source = *dim - 1;
+            into[source as usize] = moved(index[d], to.at(d as u32).low, from.at(source).low);
+        }
+    }
+
     /// The dimensions, in order.
     pub fn as_slice(&self) -> &[u32]
         ensures same { result.now ≡ self.now }
@@ -76,6 +97,16 @@ impl Perm {
         let rank = usize::from(self.rank);
         &self.dims[..rank]
     }
+}
+
+/// The subscript that lies as far above `other` as `i` above `low`.
+fn moved(i: i64, low: i64, other: i64) -> i64
+    requires above { low ≤ℤ i }
+    requires near { (i -ℤ low) ≤ℤ pos (2 ^ 32) }
+    requires room { (other +ℤ (i -ℤ low)) ≤ℤ pos (2 ^ 63 - 1) }
+    ensures { result ≡ other +ℤ (i -ℤ low) }
+{
+    other + (i - low)
 }
 
 /// Whether each number from 1 to their number is among them.

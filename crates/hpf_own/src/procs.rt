@@ -1,6 +1,6 @@
 //! Lists of processors.
 
-ghost use Rattle.std.specs.Prelude.{◌≡◌, [], ◌∷◌, ◌++◌, OnOk};
+ghost use Rattle.std.specs.Prelude.{◌≡◌, IfOk};
 
 use std::alloc::{AllocError, Global};
 use std::marker::Model;
@@ -20,21 +20,13 @@ impl Model for Procs {
 }
 
 impl Procs {
-    /// No processor yet.
-    pub(crate) fn new(alloc: Global) -> Procs
-        ensures { result ≡ [] }
+    /// These numbers.
+    pub(crate) fn from_slice(alloc: Global, numbers: &[u32]) -> Result<Procs, AllocError>
+        ensures { IfOk result (λ procs. procs ≡ numbers.now) }
     {
-        Procs {
-            numbers: Vec::new(alloc),
-        }
-    }
-
-    /// Adds a processor at the end.
-    pub(crate) fn push(&mut self, number: u32) -> Result<(), AllocError>
-        ensures { OnOk result (self.new ≡ self.old ++ number ∷ []) }
-    {
-        self.numbers.push(number)?;
-        Ok(())
+        Ok(Procs {
+            numbers: Vec::from_slice(alloc, numbers)?,
+        })
     }
 
     /// The numbers.

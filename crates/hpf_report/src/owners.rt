@@ -19,7 +19,7 @@ const LONGEST_LINE: usize = 1024;
 
 /// Writes a line for each element of the array, in element order: its index, and the numbers of its owners, ascending.
 pub fn owners_text<K: Sink>(mapping: &Mapping, out: &mut K) -> Result<(), Failed>
-    ensures { Writes K.given K.flushed K.faults K.takes out.old out.new result (owners_text mapping.now) }
+    ensures { Writes (K.state out.old) (K.state out.new) result (owners_text mapping.now) }
 {
     // (there are few enough elements to be counted)
     element_order();
@@ -28,6 +28,7 @@ pub fn owners_text<K: Sink>(mapping: &Mapping, out: &mut K) -> Result<(), Failed
     let mut subscripts = [0; 7];
     let index = &mut subscripts[..bounds.rank() as usize];
     bounds.first_index(index);
+    // (the place of the index: it rises to the number of elements, so that the loop ends)
     let mut element = 0u64;
     let mut more = true;
     while more {
@@ -47,20 +48,19 @@ fn push_line(gathered: &mut Gathered, mapping: &Mapping, index: &[i64])
     ensures { gathered.new.bytes ≡ gathered.old.bytes ++ owners_line mapping.now index.now }
 {
     push_index(gathered, index);
-    push_owners(gathered, mapping.owner_set(index));
+    push_owners(gathered, &mapping.owner_set(index));
     gathered.push_str("\n");
 }
 
 /// Appends a blank and a number for each owner.
-fn push_owners(gathered: &mut Gathered, owners: OwnerSet)
-    requires few { length owners ≤ 64 }
+fn push_owners(gathered: &mut Gathered, owners: &OwnerSet)
+    requires few { length owners.now ≤ 64 }
     requires room { array_string_len gathered.old + 704 ≤ ROOM }
-    ensures bytes { gathered.new.bytes ≡ gathered.old.bytes ++ flat_map owner_text owners }
+    ensures bytes { gathered.new.bytes ≡ gathered.old.bytes ++ flat_map owner_text owners.now }
     ensures len { array_string_len gathered.new ≤ array_string_len gathered.old + 704 }
 {
-    let mut rest = owners;
-    while let Some(p) = rest.pop_first() {
-        push_owner(gathered, p);
+    for p in owners.as_slice() {
+        push_owner(gathered, *p);
     }
 }
 

@@ -1,57 +1,48 @@
 //! Command lines of the table, which are read and no more.
 
-use crate::block::Block;
 use crate::words::words_of;
-use anyhow::{Result, bail, ensure};
+use anyhow::{Result, bail};
 use hpf_words::{Asked, CommandLine, Name, WordsError, read_words};
 use std::alloc::{AllocError, Global};
 
-/// Adds a command line, and what it asks for.
-pub fn push_asking(alloc: Global, asking: &Block<'_>, to: &mut String) -> Result<()> {
-    ensure!(
-        asking.lines.is_empty(),
-        "lines below a command line: {}",
-        asking.name
-    );
-    let title = format!(in alloc; "asks {}", asking.name)?;
-    writeln!(to, "{}", title.trim_end())?;
-    let words = words_of(alloc, asking.name)?;
+/// What a command line asks for.
+pub fn asking_of(alloc: Global, line: &str) -> Result<String> {
+    let words = words_of(alloc, line)?;
+    let mut text = String::new(alloc);
     match read_words(alloc, &words) {
-        Ok(line) => push_line(&line, to)?,
-        Err(WordsError::Refused) => writeln!(to, "refused")?,
+        Ok(line) => push_line(&line, &mut text)?,
+        Err(WordsError::Refused) => text.push_str("refused")?,
         Err(WordsError::Memory(_)) => bail!("out of memory"),
     }
-    to.push('\n')?;
-    Ok(())
+    Ok(text)
 }
 
 /// Adds what a command line asks for.
 fn push_line(line: &CommandLine<'_>, to: &mut String) -> Result<(), AllocError> {
     let map = line.map;
     match &line.asked {
-        Asked::Check => writeln!(to, "check {map:?}"),
-        Asked::Show => writeln!(to, "show {map:?}"),
+        Asked::Check => write!(to, "check {map:?}"),
+        Asked::Show => write!(to, "show {map:?}"),
         Asked::Owners { name } => {
             write!(to, "owners {map:?}")?;
-            push_name(name, to)?;
-            writeln!(to, "")
+            push_name(name, to)
         }
         Asked::Local { name, processor } => {
             write!(to, "local {map:?}")?;
             push_name(name, to)?;
-            writeln!(to, " processor {processor}")
+            write!(to, " processor {processor}")
         }
-        Asked::Plan => writeln!(to, "plan {map:?}"),
-        Asked::Run { workers } => writeln!(to, "run {map:?} workers {workers}"),
+        Asked::Plan => write!(to, "plan {map:?}"),
+        Asked::Run { workers } => write!(to, "run {map:?} workers {workers}"),
         Asked::Parts { stage, workers } => {
-            writeln!(to, "parts {map:?} stage {stage} workers {workers}")
+            write!(to, "parts {map:?} stage {stage} workers {workers}")
         }
-        Asked::Make { frames, seed } => writeln!(to, "make {map:?} frames {frames} seed {seed}"),
+        Asked::Make { frames, seed } => write!(to, "make {map:?} frames {frames} seed {seed}"),
         Asked::Trial {
             frames,
             seed,
             workers,
-        } => writeln!(
+        } => write!(
             to,
             "trial {map:?} frames {frames} seed {seed} workers {workers}"
         ),

@@ -1,6 +1,7 @@
 //! The blocks of a table.
 
 use crate::line::Line;
+use crate::series::Series;
 use anyhow::{Context, Result};
 use std::alloc::Global;
 
@@ -13,10 +14,8 @@ pub enum Kind {
     Row,
     /// What the call is given over ends that can't fail.
     Sure,
-    /// A status, whose line is printed.
-    Ending,
-    /// A command line, which is read and no more.
-    Asking,
+    /// A question and its answer, in one line.
+    Question,
 }
 
 impl Kind {
@@ -26,19 +25,41 @@ impl Kind {
             "text" => Some(Kind::Text),
             "row" => Some(Kind::Row),
             "sure" => Some(Kind::Sure),
-            "ending" => Some(Kind::Ending),
-            "asks" => Some(Kind::Asking),
+            "ending" | "asks" | "tokens" | "statements" | "places" | "canonical" => {
+                Some(Kind::Question)
+            }
+            "names" | "mapping" | "pipeline" | "owners" | "held" | "counts" | "stage" => {
+                Some(Kind::Question)
+            }
+            "word"
+            | "message"
+            | "last"
+            | "printed"
+            | "chain"
+            | "cycle"
+            | "steep"
+            | "list"
+            | "part" => Some(Kind::Question),
             _ => None,
         }
     }
 }
 
-/// A text with its name, a row with its title, a status or the words of a command line, and its lines.
+/// What is due of a row, or of those of its runs that a series has.
+#[derive(Drop)]
+pub struct Due<'a> {
+    pub runs: Option<Series<'a>>,
+    pub lines: Vec<Line<'a>>,
+}
+
+/// A line that begins a block, the lines below it, and what is due.
 #[derive(Drop)]
 pub struct Block<'a> {
     pub kind: Kind,
+    pub head: &'a str,
     pub name: &'a str,
     pub lines: Vec<Line<'a>>,
+    pub dues: Vec<Due<'a>>,
 }
 
 /// The blocks of a table, in their order.
@@ -58,15 +79,41 @@ fn add<'a>(alloc: Global, blocks: &mut Vec<Block<'a>>, line: Line<'a>) -> Result
     match Kind::begun_by(line.head) {
         Some(kind) => blocks.push(Block {
             kind,
+            head: line.head,
             name: line.rest,
             lines: Vec::new(alloc),
+            dues: Vec::new(alloc),
         })?,
         None => {
-            let last = blocks
-                .last_mut()
-                .context("no text, row or ending has begun")?;
-            last.lines.push(line)?;
+            let last = blocks.last_mut().context("no block has begun")?;
+            last.add(alloc, line)?;
         }
     }
     Ok(())
+}
+
+impl<'a> Block<'a> {
+    /// Adds a line, which says what is due from the first `gives` on.
+    fn add(&mut self, alloc: Global, line: Line<'a>) -> Result<()> {
+        if line.head == "gives" {
+            let runs = runs_of(alloc, line)?;
+            self.dues.push(Due {
+                runs,
+                lines: Vec::new(alloc),
+            })?;
+        } else if let Some(due) = self.dues.last_mut() {
+            due.lines.push(line)?;
+        } else {
+            self.lines.push(line)?;
+        }
+        Ok(())
+    }
+}
+
+/// The runs that a line `gives` speaks of, where it doesn't speak of all.
+fn runs_of<'a>(alloc: Global, line: Line<'a>) -> Result<Option<Series<'a>>> {
+    match line.rest.strip_prefix("for ") {
+        Some(numbers) => Ok(Some(Series::read(alloc, numbers)?)),
+        None => Ok(None),
+    }
 }

@@ -1,24 +1,17 @@
 //! Statuses as the table writes them.
 
 use crate::answer::push_status;
-use crate::block::Block;
 use crate::line::cut;
-use anyhow::{Context, Result, bail, ensure};
+use anyhow::{Context, Result, bail};
 use hpf_cmd::Status;
 use std::alloc::Global;
 
-/// Adds a status of the table, and the line that tells it.
-pub fn push_ending(alloc: Global, ending: &Block<'_>, to: &mut String) -> Result<()> {
-    ensure!(
-        ending.lines.is_empty(),
-        "lines below a status: {}",
-        ending.name
-    );
-    let status = status_of(alloc, ending.name).context(format_args!("no status: {}", ending.name))?;
-    writeln!(to, "ending {}", ending.name)?;
-    push_status(alloc, &status, to)?;
-    to.push('\n')?;
-    Ok(())
+/// The line that tells a status of the table.
+pub fn ending_of(alloc: Global, words: &str) -> Result<String> {
+    let status = status_of(alloc, words).context(format_args!("no status: {words}"))?;
+    let mut text = String::new(alloc);
+    push_status(alloc, &status, &mut text)?;
+    Ok(String::from_str(alloc, text.trim_end())?)
 }
 
 /// The status of this name, with its numbers.

@@ -1,102 +1,60 @@
-//! Runs the program's one call over objects in memory, row by row of a table, and prints each row with what came of it:
+//! Asks the questions of the tables of `hpf_vectors`, and makes the program's one call for each row of them over objects in
+//! memory. Prints how many rows of each table came out as they should, and what differs:
 //!
 //! ```text
-//! row TITLE                  the row, and the words of its command line
-//! words WORD ..
-//! for N 0 to N 11            the numbers of its runs, the first and the last of those that follow with equal answers
-//! status 6 write fault       the number of the status, and the line that tells it
-//! load "M" limit 1048576     each load that was asked for, with its limit, and `failed` where it failed
-//! input left 34              the bytes of the input that weren't taken, where the status settles that
-//! input failed 1             how many reads failed, if one did
-//! out                        what out was given, in the pieces of a table, if it was given anything
-//! | INTEGER A(3)
-//! out failed 1               how many writes and flushes of it failed, if one did
-//! notes                      the same of the notes
+//! runs: 36 of 37 rows
+//! row the map is empty            a row of which something else came
+//! came
+//! status 0
+//! due
+//! status 2 map refused 42 Pipeline at 1:1
 //! ```
-//!
-//! A row over ends that can't fail begins with `sure TITLE`, and tells two runs. A command line that is only read begins
-//! with `asks WORD ..`, and is told by what it asks for, or `refused`.
 #![tactic(auto)]
 
 mod answer;
 mod asking;
 mod block;
 mod bytes;
+mod due;
+mod elements;
 mod ending;
+mod escape;
 mod given;
+mod held;
+mod lexemes;
 mod line;
+mod long;
+mod made;
+mod parts;
 mod piece;
+mod question;
+mod reading;
 mod row;
 mod run;
 mod scope;
 mod series;
 mod sure;
+mod tables;
+mod tally;
+mod text;
+mod trees;
 mod watched;
 mod words;
 
-use anyhow::{Context, Result};
-use asking::push_asking;
-use block::{Block, Kind, blocks};
-use ending::push_ending;
-use hpf_vectors::commands::{COMMANDS, Part};
-use piece::push_piece;
-use row::push_row;
-use scope::{Named, Scope};
+use anyhow::Result;
 use std::alloc::Global;
-use sure::push_sure;
+use tables::push_all;
 
-/// Where the table can't be read, nothing but a message is printed.
+/// Where a table can't be read, nothing but a message is printed.
 fn main(rt: HostRuntime) -> Result<()> {
-    let answers = answers(rt.alloc(), COMMANDS)?;
-    rt.print(answers)?;
+    let counts = counts(rt.alloc())?;
+    rt.print(counts)?;
     Ok(())
 }
 
-/// The rows of some parts, with what came of each.
-fn answers(alloc: Global, parts: &[Part]) -> Result<String> {
-    let mut texts = Vec::new(alloc);
-    let mut answers = String::new(alloc);
-    for part in parts {
-        for block in &blocks(alloc, part.rows).context(part.name)? {
-            push_block(alloc, block, &mut texts, &mut answers).context(part.name)?;
-        }
-    }
-    Ok(answers)
-}
-
-/// Keeps a text, and adds what came of any other block.
-fn push_block<'a>(
-    alloc: Global,
-    block: &Block<'a>,
-    texts: &mut Vec<Named<'a>>,
-    answers: &mut String,
-) -> Result<()> {
-    match block.kind {
-        Kind::Text => {
-            let bytes = bytes_of(alloc, block, texts)?;
-            texts.push(Named {
-                name: block.name,
-                bytes,
-            })?;
-            Ok(())
-        }
-        Kind::Row => push_row(alloc, block, texts, answers),
-        Kind::Sure => push_sure(alloc, block, texts, answers),
-        Kind::Ending => push_ending(alloc, block, answers),
-        Kind::Asking => push_asking(alloc, block, answers),
-    }
-}
-
-/// The bytes of a text, whose pieces may name the texts before it.
-fn bytes_of<'a>(alloc: Global, text: &Block<'a>, texts: &[Named<'a>]) -> Result<Vec<u8>> {
-    let scope = Scope {
-        texts,
-        variables: &[],
-    };
-    let mut bytes = Vec::new(alloc);
-    for line in &text.lines {
-        let added = push_piece(alloc, scope, line.head, line.rest, &mut bytes);
-        added.context(format_args!("line {}", line.number))?;
-    }
-    Ok(bytes)
+/// How many rows of each table came out right.
+fn counts(alloc: Global) -> Result<String> {
+    let mut counts = String::new(alloc);
+    push_all(alloc, &mut counts)?;
+    Ok(counts)
 }

@@ -25,8 +25,20 @@ pub struct Scope<'a, 'b> {
 }
 
 impl<'b> Scope<'_, 'b> {
-    /// The number that a word is, or stands for.
+    /// The number that a word is, or stands for, or the difference of two such words.
     pub fn number(&self, word: &str) -> Result<u64> {
+        match word.split_once('-') {
+            Some((from, less)) => {
+                let (from, less) = (self.value(from)?, self.value(less)?);
+                from.checked_sub(less)
+                    .context(format_args!("no number: {word}"))
+            }
+            None => self.value(word),
+        }
+    }
+
+    /// The number that a word is, or stands for.
+    fn value(&self, word: &str) -> Result<u64> {
         match self.variables.iter().find(|known| known.name == word) {
             Some(known) => Ok(known.number),
             None => word

@@ -29,6 +29,13 @@ impl<'a> Series<'a> {
         ensure!(!numbers.is_empty(), "{name} has no numbers");
         Ok(Series { name, numbers })
     }
+
+    /// Whether the variable has one of these numbers in a run.
+    pub fn has(&self, variables: &[Variable<'_>]) -> bool {
+        variables.iter().any(|variable| {
+            variable.name == self.name && self.numbers.contains(&variable.number)
+        })
+    }
 }
 
 /// Adds the numbers of a range.

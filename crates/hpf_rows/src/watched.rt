@@ -40,9 +40,7 @@ impl<T: Drop> Watched<T> {
 }
 
 impl<S: Source + Drop> Source for Watched<S> {
-    ghost left = { λ s. S.left s.inner };
-
-    ghost faults = { λ s. S.faults s.inner };
+    ghost state = { λ s. S.state s.inner };
 
     fn read(&mut self, into: &mut [u8]) -> Result<usize, Failed> {
         let answer = self.inner.read(into);
@@ -54,13 +52,7 @@ impl<S: Source + Drop> Source for Watched<S> {
 }
 
 impl<K: Sink + Drop> Sink for Watched<K> {
-    ghost given = { λ s. K.given s.inner };
-
-    ghost flushed = { λ s. K.flushed s.inner };
-
-    ghost faults = { λ s. K.faults s.inner };
-
-    ghost takes = { λ s. K.takes s.inner };
+    ghost state = { λ s. K.state s.inner };
 
     fn write(&mut self, from: &[u8]) -> Result<usize, Failed> {
         let answer = self.inner.write(from);
@@ -93,13 +85,7 @@ pub struct WatchedLoader<L: Drop> {
 }
 
 impl<L: Loader + Drop> Loader for WatchedLoader<L> {
-    ghost files = { λ l. L.files l.inner };
-
-    ghost faults = { λ l. L.faults l.inner };
-
-    ghost missed = { λ l. L.missed l.inner };
-
-    ghost may_miss = { λ l. L.may_miss l.inner };
+    ghost state = { λ l. L.state l.inner };
 
     fn load(&mut self, alloc: Global, name: &str, limit: usize) -> Result<Text, LoadError> {
         let name_asked = String::from_str(alloc, name).map_err(LoadError::Memory)?;

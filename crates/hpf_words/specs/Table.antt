@@ -16,31 +16,38 @@ spelling (Parts stage workers) = codes "parts"
 spelling (Make frames seed) = codes "make"
 spelling (Trial frames seed workers) = codes "trial"
 
+-- nothing is given
+abbrev pub nothing : Given
+nothing = record { name = None; processor = None; stage = None; frames = None; seed = None; workers = None }
+
 -- Exactly this is given.
-pub record Gives (given : Given) (name : Option (List ℕ)) (processor stage frames seed workers : Option ℕ) : Type 0 where
-  pub name_is : given.name ≡ name
-  pub processor_is : given.processor ≡ processor
-  pub stage_is : given.stage ≡ stage
-  pub frames_is : given.frames ≡ frames
-  pub seed_is : given.seed ≡ seed
-  pub workers_is : given.workers ≡ workers
+pub record Gives (given wanted : Given) : Type 0 where
+  pub name_is : given.name ≡ wanted.name
+  pub processor_is : given.processor ≡ wanted.processor
+  pub stage_is : given.stage ≡ wanted.stage
+  pub frames_is : given.frames ≡ wanted.frames
+  pub seed_is : given.seed ≡ wanted.seed
+  pub workers_is : given.workers ≡ wanted.workers
 
 abbrev pub IsNothing : Given → Type 0
-IsNothing given = Gives given None None None None None None
+IsNothing given = Gives given nothing
 
 -- What is given meets the row of the action, and makes it: its needs are there, nothing else is there but what it may
 -- have, a seed that isn't there is 0, and a number of workers that isn't there is 1.
 abbrev pub IsMet : Asked → Given → Type 0
 IsMet Check given = IsNothing given
 IsMet Show given = IsNothing given
-IsMet (Owners name) given = Gives given (Some name) None None None None None
-IsMet (Local name processor) given = Gives given (Some name) (Some processor) None None None None
+IsMet (Owners name) given = Gives given (record nothing { name = Some name })
+IsMet (Local name processor) given = Gives given (record nothing { name = Some name; processor = Some processor })
 IsMet Plan given = IsNothing given
-IsMet (Run workers) given = (w : Option ℕ) × Gives given None None None None None w × (workers ≡ unwrap_or w 1)
-IsMet (Parts stage workers) given = (w : Option ℕ) × Gives given None None (Some stage) None None w × (workers ≡ unwrap_or w 1)
-IsMet (Make frames seed) given = (s : Option ℕ) × Gives given None None None (Some frames) s None × (seed ≡ unwrap_or s 0)
+IsMet (Run workers) given = (w : Option ℕ) × Gives given (record nothing { workers = w }) × (workers ≡ unwrap_or w 1)
+IsMet (Parts stage workers) given =
+    (w : Option ℕ) × Gives given (record nothing { stage = Some stage; workers = w }) × (workers ≡ unwrap_or w 1)
+IsMet (Make frames seed) given =
+    (s : Option ℕ) × Gives given (record nothing { frames = Some frames; seed = s }) × (seed ≡ unwrap_or s 0)
 IsMet (Trial frames seed workers) given =
-    (s : Option ℕ) × (w : Option ℕ) × Gives given None None None (Some frames) s w × (seed ≡ unwrap_or s 0) × (workers ≡ unwrap_or w 1)
+    (s : Option ℕ) × (w : Option ℕ) × Gives given (record nothing { frames = Some frames; seed = s; workers = w })
+    × (seed ≡ unwrap_or s 0) × (workers ≡ unwrap_or w 1)
 
 -- the numbers of an action lie in their ranges
 abbrev pub IsInRange : Asked → Type 0

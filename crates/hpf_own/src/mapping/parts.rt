@@ -52,7 +52,7 @@ impl Mapping {
     {
         let _ = &self.bounds;
         let mut side = Runs::new(alloc);
-        side.push(self.bounds.at(d))?;
+        side.push(alloc, self.bounds.at(d))?;
         let mut rest = p;
         for (e, size) in self.procs.as_slice().iter().enumerate() {
             side = self.narrowed(alloc, side, d, e as u32, rest % size)?;

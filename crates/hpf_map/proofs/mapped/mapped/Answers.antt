@@ -20,26 +20,5 @@ dims_are c =
     mapped_dims c.args.array.now c.args.root.now (seen c.args.dealing.now) c.args.images.now c.in_ok-bounds.bounds c.in_ok-sizes.sizes c.in_ok-dims.dims c.requires.shapes
     c.in_ok-bounds.ensures c.in_ok-sizes.ensures c.in_ok-dims.ensures
 
-pub new-requires-clause-followed : goal.new-requires-clause-followed
-new-requires-clause-followed c = (dims_are c).followed
-
-pub new-requires-clause-divided : goal.new-requires-clause-divided
-new-requires-clause-divided c = (dims_are c).divided
-
-pub new-requires-clause-once : goal.new-requires-clause-once
-new-requires-clause-once c = (dims_are c).once
-
-pub new-requires-clause-each_once : goal.new-requires-clause-each_once
-new-requires-clause-each_once c = (dims_are c).each_once
-
-pub new-requires-clause-sizes : goal.new-requires-clause-sizes
-new-requires-clause-sizes c = (dims_are c).sizes
-
-pub new-requires-clause-within : goal.new-requires-clause-within
-new-requires-clause-within c = (dims_are c).within
-
-pub new-requires-clause-coefficients : goal.new-requires-clause-coefficients
-new-requires-clause-coefficients c = (dims_are c).coefficients
-
-pub new-requires-clause-some : goal.new-requires-clause-some
-new-requires-clause-some c = (dims_are c).some
+pub new-requires-clause-dims : goal.new-requires-clause-dims
+new-requires-clause-dims c = dims_are c

@@ -1,4 +1,4 @@
-use Rattle.std.proofs.Common.{◌≡◌, ℕ, ◌+◌, List, Some, None, Result, Ok, Err, IfOk, arith}
+use Rattle.std.proofs.Common.{◌≡◌, ℕ, ◌+◌, List, Some, None, Result, Ok, Err, IfOk, arith, refl}
 use Rattle.hpf_io.specs.Counts.{Rose}
 use Rattle.hpf_io.specs.Calls.{one_more_fault}
 use Rattle.hpf_io.specs.Files.{Files, HasFront}
@@ -16,10 +16,11 @@ untold (Err _) name count = tt
 pub load-tells : goal.load-tells
 load-tells g c = record {
   kept = λ all e. e;
+  within = c.ensures.within;
   front = untold c.result c.args.name.now (c.args.limit + 1);
   failed = λ f. rose c.args.self.now.faults c.new.self.now.faults (c.ensures.fault f);
   name = c.ensures.name;
-  cause = λ _. tt;
+  cause = λ _. refl;
   counted = c.ensures.counted;
   same = c.ensures.same;
   later = c.ensures.later;

@@ -1,8 +1,6 @@
-use Rattle.std.proofs.Common.{◌≡◌, ℕ, ◌+◌, ◌<◌, true, List, length, take, get_or, set, ℤ, pos, slice_get, Some, w64, of_z, to_z, to_z-of_z, SFits, rules, arith, sym, ap, ◌∙◌, subst}
+use Rattle.std.proofs.Common.{true, length, get_or, set, w64, of_z, to_z, to_z-of_z, SFits, rules, ◌∙◌}
 use Rattle.std.proofs.lemmas.List.{get_or_default, length-set}
-use Rattle.hpf_num.specs.declared.run.Run.{Run}
-use Rattle.hpf_own.specs.Space.{LiesIn}
-use Rattle.hpf_own.specs.Walk.{IsIndexAt}
+use Rattle.hpf_own.specs.KeptLists.{no_run}
 use Rattle.hpf_own.proofs.Walking.{lows, first_place, first_lies, place_is, written_more, written_all}
 use Rattle.hpf_own.proofs.bounds.Bounds.first_index.Goals as goal
 
@@ -11,7 +9,6 @@ loop-d-preserved c =
     let bounds = c.as_slice-run-items.result.now in
     let into = c.loop-d.into in
     let d = c.loop-d.d in
-    let no_run : Run = record { low = pos 0; high = pos 0 } in
     let run = get_or bounds d no_run in
     let fits : SFits w64 run.low = search rules in
     rw (to_z-of_z fits) (record {

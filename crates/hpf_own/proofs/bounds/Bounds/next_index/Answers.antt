@@ -3,6 +3,7 @@ use Rattle.std.specs.Int.RustNames.{int_lt}
 use Rattle.std.proofs.lemmas.Int.{ints}
 use Rattle.std.proofs.lemmas.List.{get_or_default}
 use Rattle.hpf_num.specs.declared.run.Run.{Run}
+use Rattle.hpf_own.specs.KeptLists.{no_run}
 use Rattle.hpf_own.proofs.Indices.{LiesIn-length}
 use Rattle.hpf_own.proofs.Walking.{IsNext, IsWrapped, wrapped_none, wrapped_more, wrapped_up, wrapped_all, next_index_at, next_lies}
 use Rattle.hpf_own.proofs.bounds.Bounds.next_index.Goals as goal
@@ -10,10 +11,6 @@ use Rattle.hpf_own.proofs.bounds.Bounds.next_index.Goals as goal
 pub loop-d-init : goal.loop-d-init
 loop-d-init c =
     wrapped_none c.as_slice-run-items.result.now c.args.index.now (LiesIn-length c.args.self.now c.args.index.now c.requires ∙ ap (λ (bounds : List Run). length bounds) (sym c.as_slice-run-items.ensures.same))
-
--- what the loop reads where a place has no run
-abbrev no_run : Run
-no_run = record { low = pos 0; high = pos 0 }
 
 below : (x high : ℤ) → int_lt x high ≡ true → x <ℤ high
 below x high h = grind (arith, ints)

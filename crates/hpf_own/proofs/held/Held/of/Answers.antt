@@ -1,7 +1,8 @@
 use Rattle.std.proofs.Common.{◌≡◌, ℕ, ◌≤◌, List, ℤ, [], length, replicate, All, ap, sym, ◌∙◌, inl, inr, arith, subst, refl}
 use Rattle.std.proofs.lemmas.List.{length-replicate}
-use Rattle.std.proofs.lemmas.List.Elements.{All-replicate}
+use Rattle.std.proofs.lemmas.List.Elements.{All-replicate, All-nil}
 use Rattle.std.proofs.lemmas.Bool.{false≢true}
+use Rattle.hpf_num.specs.Runs.{AreMembers, IsSmall}
 use Rattle.hpf_own.specs.Space.{choices}
 use Rattle.hpf_own.specs.Held.{AreSides, Part}
 use Rattle.hpf_own.proofs.Sides.{no_choice, empty_choice}
@@ -10,8 +11,9 @@ use Rattle.hpf_own.proofs.held.Held.of.Goals as goal
 pub invariant_of-result : goal.invariant_of-result
 invariant_of-result c =
     let value : c.as_slice.result.now ≡ c.args.sides.items = c.as_slice.ensures.value in
-    let some = subst (All (λ xs. 1 ≤ length xs)) value (c.have_members.ensures.0 c.if-have_members.true) in
-    record { some = c.requires.some; short = c.requires.short; all_or_none = inl some; few = c.requires.few }
+    let some = subst (All (λ xs. 1 ≤ length xs)) value (c.have_members.ensures.some.0 c.if-have_members.true) in
+    let members = rw c.if-have_members.true at c.have_members.ensures.members in
+    record { some = c.requires.some; short = c.requires.short; members = subst (All AreMembers) value members; all_or_none = inl some; few = c.requires.few }
 
 -- what no member is in
 none_sides : (n : ℕ) → 1 ≤ n → n ≤ 7 → (let none : List ℤ = [] in AreSides (replicate n none))
@@ -21,6 +23,7 @@ none_sides n some short =
     record {
       some = omega arith;
       short = omega arith;
+      members = All-replicate AreMembers n none (record { ascending = λ i j d less below. absurd (omega arith); small = All-nil IsSmall });
       all_or_none = inr (All-replicate (λ (xs : List ℤ). length xs ≡ 0) n none refl);
       few = rw (empty_choice {A = ℤ} n some) (omega arith);
     }
@@ -45,5 +48,5 @@ returns c =
     let value : c.as_slice.result.now ≡ items = c.as_slice.ensures.value in
     let rank : c.len.result ≡ length items = omega (arith, c.args.sides.ok.0) in
     made items c.in_ok-sides.sides.items c.len.result rank c.requires.some
-    (λ all. false≢true (sym c.if-have_members.false ∙ c.have_members.ensures.1 (subst (All (λ xs. 1 ≤ length xs)) (sym value) all)))
+    (λ all. false≢true (sym c.if-have_members.false ∙ c.have_members.ensures.some.1 (subst (All (λ xs. 1 ≤ length xs)) (sym value) all)))
     c.in_ok-sides.ensures

@@ -23,7 +23,7 @@ owns_any-requires c =
     let h = subst (λ (i : Image). CanLead i c.args.axis.now c.args.bounds.now) c.in-Along.is c.requires in
     let l = first_linear c.args.axis.now c.args.bounds.now c.in-Along.dim c.in-Along.a c.in-Along.b h in
     let a : FitsSigned w64 c.in-Along.a = search rules in
-    record { positions = rw (to_z-of_z l.fits, l.is, to_z-of_z a, c.extent_of.ensures) (line_in c.args.axis.now c.args.bounds.now c.in-Along.dim c.in-Along.a c.in-Along.b h) }
+    record { positions = rw (to_z-of_z l.fits, l.is, to_z-of_z a, c.extent.ensures) (line_in c.args.axis.now c.args.bounds.now c.in-Along.dim c.in-Along.a c.in-Along.b h) }
 
 pub owner-requires-clause-low : goal.owner-requires-clause-low
 owner-requires-clause-low c =
@@ -53,7 +53,7 @@ returns-in-Along c =
     let h = subst (λ (i : Image). CanLead i c.args.axis.now c.args.bounds.now) c.in-Along.is c.requires in
     let l = first_linear c.args.axis.now c.args.bounds.now c.in-Along.dim c.in-Along.a c.in-Along.b h in
     let a : FitsSigned w64 c.in-Along.a = search rules in
-    let o = rw (to_z-of_z l.fits, l.is, to_z-of_z a, c.extent_of.ensures) at c.owns_any.ensures in
+    let o = rw (to_z-of_z l.fits, l.is, to_z-of_z a, c.extent.ensures) at c.owns_any.ensures in
     rw c.in-Along.is (
       λ t. line_leads c.args.axis.now c.args.bounds.now c.in-Along.dim c.in-Along.a c.in-Along.b c.args.c (sym o ∙ t),
       λ k. o ∙ leads_line c.args.axis.now c.args.bounds.now c.in-Along.dim c.in-Along.a c.in-Along.b c.args.c k,

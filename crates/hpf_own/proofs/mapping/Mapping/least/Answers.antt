@@ -10,18 +10,18 @@ pub least-requires-clause-positions : goal.least-requires-clause-positions
 least-requires-clause-positions c =
     let m : IsMapping c.args.self.now = subst IsMapping c.self.view_is c.self.invariant in
     let dims = ap (λ (m : PlainMapping). m.dims) c.self.view_is in
-    asked c.args.self.now c.as_slice-dim-items.result.now c.args.index.now c.loop-dim.dim-index c.dim-item.result m c.requires.index (c.as_slice-dim-items.ensures ∙ dims) (omega arith) c.dim-item.is
+    asked c.args.self.now c.as_slice-dim-items.result.now c.args.index.now c.loop-dim.dim-index c.dim-item.result m c.requires.index (c.as_slice-dim-items.ensures.same ∙ dims) (omega arith) c.dim-item.is
 
 pub returns-then-is_over-clause-least : goal.returns-then-is_over-clause-least
 returns-then-is_over-clause-least c =
     let dims = ap (λ (m : PlainMapping). m.dims) c.self.view_is in
-    let found = divider_is c.as_slice-dim-items.result.now c.args.self.now.dims c.args.e c.loop-dim.dim-index c.dim-item.result (c.as_slice-dim-items.ensures ∙ dims) (omega arith) c.dim-item.is c.loop-dim.invariant c.if-is_over.ensures in
+    let found = divider_is c.as_slice-dim-items.result.now c.args.self.now.dims c.args.e c.loop-dim.dim-index c.dim-item.result (c.as_slice-dim-items.ensures.same ∙ dims) (omega arith) c.dim-item.is c.loop-dim.invariant c.if-is_over.ensures in
     least_found c.args.self.now.dims c.args.index.now c.args.e c.dim-item.result c.least.result found c.least.ensures.least
 
 pub unreachable-requires : goal.unreachable-requires
 unreachable-requires c =
     let m : IsMapping c.args.self.now = subst IsMapping c.self.view_is c.self.invariant in
     let dims = ap (λ (m : PlainMapping). m.dims) c.self.view_is in
-    let none = divider_none c.as_slice-dim-items.result.now c.args.self.now.dims c.args.e c.loop-dim.dim-index (c.as_slice-dim-items.ensures ∙ dims) (omega arith) c.loop-dim.invariant in
+    let none = divider_none c.as_slice-dim-items.result.now c.args.self.now.dims c.args.e c.loop-dim.dim-index (c.as_slice-dim-items.ensures.same ∙ dims) (omega arith) c.loop-dim.invariant in
     let f = found (λ (d : BaseDim). divides c.args.e d.cut) c.args.self.now.dims no_dim (omega (arith, m.dims.each_once c.args.e c.requires.dimension)) in
     absurd (let e = sym none ∙ f.is in cc)

@@ -1,0 +1,16 @@
+pub mod Borrowing
+pub mod Calls
+pub mod Ends
+pub mod Filling
+pub mod Hand
+pub mod History
+pub mod KeepsBorrower
+pub mod KeepsLender
+pub mod Lending
+pub mod Messages
+pub mod Outbox
+pub mod Plain
+pub mod Shelf
+pub mod Starts
+pub mod Streams
+pub mod Writing

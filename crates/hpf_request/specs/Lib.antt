@@ -1,0 +1,16 @@
+pub mod Words
+pub mod Form
+pub mod Named
+pub mod CountsText
+pub mod Part
+pub mod Mark
+pub mod Parts
+pub mod MarkLine
+pub mod MarkLines
+pub mod Pipeline
+pub mod Deed
+pub mod Request
+pub mod Order
+pub mod Loads
+pub mod Denials
+pub mod Decided

@@ -1,0 +1,10 @@
+pub mod Runs
+pub mod Finding
+pub mod Crossing
+pub mod Adding
+pub mod Meeting
+pub mod Strides
+pub mod Entering
+pub mod Shifts
+pub mod Planning
+pub mod Arriving

@@ -1,0 +1,4 @@
+pub mod Statuses
+pub mod Ends
+pub mod Names
+pub mod StatusText
