@@ -7,7 +7,7 @@ top=$(cd "$(dirname "$0")/.." && pwd)
 room=$(mktemp -d)
 trap 'rm -rf "$room"' EXIT
 
-for name in yardstick owners local; do
+for name in yardstick owners local make; do
     gcc -O2 -Wall -Wextra -o "$room/$name" "$top/tools/$name.c"
 done
 
@@ -47,6 +47,9 @@ printf '%s\n' 'INTEGER A(256,256)' '!HPF$ PROCESSORS P(4,4)' '!HPF$ DISTRIBUTE A
 compare "50 frames of 256 by 256 elements on 4 by 4 processors" run "$room/map" -- yardstick 4 4
 
 printf '%s\n' 'INTEGER A(2048,2048)' '!HPF$ PROCESSORS P(8,8)' '!HPF$ DISTRIBUTE A(BLOCK, CYCLIC(3)) ONTO P' >"$room/map"
+printf '%s\n' 'INTEGER A(65536)' '!HPF$ PROCESSORS P(4)' '!HPF$ DISTRIBUTE A(BLOCK) ONTO P' '!PIPE$ INPUT A' >"$room/map"
+compare "2000 frames of 65536 elements made from a seed" make "$room/map" --frames 2000 --seed 7 -- make 65536 2000 7
+
 compare "owners of 2048 by 2048 elements on 8 by 8 processors" owners "$room/map" A -- owners 2048 8
 
 printf '%s\n' 'INTEGER A(2048,2048)' '!HPF$ PROCESSORS P(2,2)' '!HPF$ DISTRIBUTE A(BLOCK, BLOCK) ONTO P' '!HPF$ SHADOW A(1,1)' >"$room/map"

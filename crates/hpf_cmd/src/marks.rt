@@ -4,8 +4,8 @@ ghost use Rattle.std.specs.Prelude.{◌≡◌, ◌≤◌, ℕ, ℤ, List, length
 ghost use Rattle.hpf_io.specs.Writes.{Writes};
 ghost use Rattle.hpf_request.specs.MarkLines.{lines_of};
 
-use crate::mark_line::mark_line;
 use hpf_io::{Failed, Sink};
+use hpf_report::mark_line;
 use hpf_request::Part;
 
 /// Writes a line for each processor's mark, in order.

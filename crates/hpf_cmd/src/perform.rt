@@ -11,6 +11,7 @@ ghost use Rattle.hpf_cmd.specs.Ended.{IsOfDeed};
 ghost use Rattle.hpf_cmd.specs.Shows.{Shows};
 
 use crate::check::tell_counts;
+use crate::make::make_frames;
 use crate::print::flushed;
 use crate::run::run_form;
 use crate::tell::{tell_owners, tell_part};
@@ -20,8 +21,8 @@ use hpf_status::Status;
 use hpf_syntax::{Items, print};
 use std::alloc::Global;
 
-/// Does what is asked for: prints a text to `out`, or runs frames from `frames` to `out` and tells their marks to
-/// `notes`.
+/// Does what is asked for: prints a text to `out`, makes frames for it, or runs frames from `frames` to `out` and tells their
+/// marks to `notes`.
 pub(crate) fn perform<S: Source, K: Sink, N: Sink>(
     alloc: Global,
     request: Request,
@@ -42,6 +43,11 @@ pub(crate) fn perform<S: Source, K: Sink, N: Sink>(
         Request::Owners(mapping) => tell_owners(&mapping, out),
         Request::Local { owned, held } => tell_part(&owned, &held, out),
         Request::Run(form) => run_form(alloc, form, frames, out, notes),
+        Request::Make {
+            extents,
+            frames,
+            seed,
+        } => make_frames(extents.as_slice(), frames, seed, out),
     }
 }
 

@@ -1,19 +1,19 @@
 -- Positions around one that are sure to have its owner.
-use Rattle.std.proofs.Common.{◌≡◌, ℕ, zero, suc, ◌+◌, ◌-◌, ◌*◌, ◌/◌, ◌%◌, ◌^◌, ◌<◌, ◌≤◌, ◌==◌, Bool, false, List, length, get_or, All, ℤ, pos, negsuc, neg_ℤ, ◌+ℤ◌, ◌*ℤ◌, ◌≤ℤ◌, ◌<ℤ◌, unsigned_abs, FitsSigned, w64, of_z, to_z, to_z-of_z, arith, inl, inr, mul_comm, sym, ap, ◌∙◌, subst}
+use Rattle.std.proofs.Common.{◌≡◌, ℕ, zero, suc, ◌+◌, ◌-◌, ◌*◌, ◌/◌, ◌%◌, ◌^◌, ◌<◌, ◌≤◌, ◌==◌, false, List, length, get_or, All, ℤ, pos, negsuc, neg_ℤ, ◌+ℤ◌, ◌*ℤ◌, ◌≤ℤ◌, ◌<ℤ◌, unsigned_abs, FitsSigned, w64, arith, inl, inr, mul_comm, sym, ap, ◌∙◌, subst}
 use Rattle.std.proofs.Math.Nat.{div-add-mod}
 use Rattle.std.proofs.lemmas.Nat.{mod_below, div-mul-add}
 use Rattle.std.proofs.lemmas.Bool.{cases_lt}
 use Rattle.std.proofs.lemmas.Int.{ints}
-use Rattle.std.proofs.lemmas.List.{get_or_default}
 use Rattle.std.proofs.lemmas.List.Sums.{sum_by_more}
 use Rattle.hpf_dist.specs.Around.{IsAround}
 use Rattle.hpf_dist.specs.Axis.{Divided, AreBounds, before}
 use Rattle.hpf_dist.specs.Owner.{own}
 use Rattle.hpf_dist.specs.Spread.{IsPosition, owner_at, spread}
 use Rattle.hpf_dist.specs.Sums.{sum_of_first, sums}
-use Rattle.hpf_dist.specs.declared.format.Format.TheVariants.{Block, Cyclic, GenBlock}
-use Rattle.hpf_dist.proofs.Blocks.{own_in_block, sums_at, length-sums}
+use Rattle.hpf_dist.specs.declared.format.Format.TheVariants.{Cyclic, GenBlock}
+use Rattle.hpf_dist.proofs.Blocks.{own_in_block, sums_at}
 use Rattle.hpf_dist.proofs.Spreads.{position_in, fits_position}
+use Rattle.hpf_num.specs.Limits.{integer_limit}
 
 -- ---- blocks of a width
 same_block : (w x y : ℕ) → 1 ≤ w → x ≤ y + x % w → y ≤ x + (w - 1 - x % w) → y / w ≡ x / w
@@ -24,7 +24,7 @@ same_block w x y some low high =
     let small : y - (x / w) * w < w = omega (arith, whole, inside) in
     ap (λ (n : ℕ). n / w) (sym is) ∙ div-mul-add (x / w) w (y - (x / w) * w) small
 
-pub around_cyclic : (w n x : ℕ) → 1 ≤ w → w ≤ 2 ^ 31 - 1 → IsAround (Cyclic w) n x (record { below = x % w; above = w - 1 - x % w })
+pub around_cyclic : (w n x : ℕ) → 1 ≤ w → w ≤ integer_limit → IsAround (Cyclic w) n x (record { below = x % w; above = w - 1 - x % w })
 around_cyclic w n x some few =
     let inside : x % w < w = mod_below x w some in
     record {

@@ -1,5 +1,5 @@
 -- Walking a run, and a linear image of its integers.
-use Rattle.std.proofs.Common.{◌≡◌, ℕ, ◌+◌, ◌-◌, ◌*◌, ◌^◌, ◌<◌, ◌≤◌, Bool, true, false, cond, List, [], ◌∷◌, ◌++◌, map, filter, All, ℤ, pos, ◌+ℤ◌, ◌-ℤ◌, ◌*ℤ◌, ◌<ℤ◌, unsigned_abs, FitsSigned, w64, refl, arith, append-nil}
+use Rattle.std.proofs.Common.{◌≡◌, ℕ, ◌+◌, ◌-◌, ◌^◌, ◌<◌, ◌≤◌, Bool, true, false, cond, List, [], ◌∷◌, ◌++◌, map, filter, All, ℤ, pos, ◌+ℤ◌, ◌-ℤ◌, ◌*ℤ◌, ◌<ℤ◌, unsigned_abs, FitsSigned, w64, refl, arith, append-nil}
 use Rattle.std.specs.List.{range_with_len}
 use Rattle.std.proofs.lemmas.Int.{ints, unsigned_abs-mul, fits_signed_from_abs}
 use Rattle.std.proofs.lemmas.Nat.{mul-le}
@@ -8,12 +8,13 @@ use Rattle.std.proofs.lemmas.List.FromFn.{get_or-map-range_with_len, length-map-
 use Rattle.hpf_num.specs.declared.run.Run.{Run}
 use Rattle.hpf_num.specs.Run.{integers}
 use Rattle.hpf_num.specs.Runs.{IsSmall}
+use Rattle.hpf_num.specs.Limits.{integer_limit}
 
 -- ---- a linear image of a small integer
-product_small : (a i : ℤ) → unsigned_abs a ≤ 2 ^ 31 - 1 → IsSmall i → unsigned_abs (a *ℤ i) ≤ 2 ^ 62 - 1
+product_small : (a i : ℤ) → unsigned_abs a ≤ integer_limit → IsSmall i → unsigned_abs (a *ℤ i) ≤ 2 ^ 62 - 1
 product_small a i h k =
-    let small : unsigned_abs i ≤ 2 ^ 31 - 1 = omega (arith, ints) in
-    rw (unsigned_abs-mul a i) (omega (arith, mul-le (unsigned_abs a) (unsigned_abs i) (2 ^ 31 - 1) (2 ^ 31 - 1) h small))
+    let small : unsigned_abs i ≤ integer_limit = omega (arith, ints) in
+    rw (unsigned_abs-mul a i) (omega (arith, mul-le (unsigned_abs a) (unsigned_abs i) integer_limit integer_limit h small))
 
 fits_abs : (a : ℤ) (n : ℕ) → unsigned_abs a ≤ n → n < 2 ^ 63 → FitsSigned w64 a
 fits_abs a n h k = fits_signed_from_abs w64 a (omega arith)
@@ -24,10 +25,10 @@ sum_fits x b h k = omega (arith, ints)
 pub small_fits : (i : ℤ) → IsSmall i → FitsSigned w64 i
 small_fits i h = omega (arith, ints)
 
-pub product_fits : (a i : ℤ) → unsigned_abs a ≤ 2 ^ 31 - 1 → IsSmall i → FitsSigned w64 (a *ℤ i)
+pub product_fits : (a i : ℤ) → unsigned_abs a ≤ integer_limit → IsSmall i → FitsSigned w64 (a *ℤ i)
 product_fits a i h k = fits_abs (a *ℤ i) (2 ^ 62 - 1) (product_small a i h k) (omega arith)
 
-pub linear_fits : (a i b : ℤ) → unsigned_abs a ≤ 2 ^ 31 - 1 → IsSmall i → unsigned_abs b ≤ 2 ^ 62 → FitsSigned w64 ((a *ℤ i) +ℤ b)
+pub linear_fits : (a i b : ℤ) → unsigned_abs a ≤ integer_limit → IsSmall i → unsigned_abs b ≤ 2 ^ 62 → FitsSigned w64 ((a *ℤ i) +ℤ b)
 linear_fits a i b h k l = sum_fits (a *ℤ i) b (product_small a i h k) l
 
 -- ---- walking a run

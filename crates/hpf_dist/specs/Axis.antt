@@ -1,7 +1,9 @@
 -- One divided dimension.
-use Rattle.std.specs.Prelude.{ℕ, ◌+◌, ◌-◌, ◌^◌, ◌≤◌, ℤ, pos, ◌-ℤ◌, ◌≤ℤ◌, neg_ℤ, unsigned_abs}
+use Rattle.std.specs.Prelude.{ℕ, ◌+◌, ◌≤◌, ℤ, pos, ◌-ℤ◌, ◌≤ℤ◌, neg_ℤ, unsigned_abs}
 use Rattle.hpf_dist.specs.declared.format.Format.{Format}
 use Rattle.hpf_dist.specs.Condition.{HasSmallNumbers, Suits}
+use Rattle.hpf_num.specs.Limits.{integer_limit}
+use Rattle.hpf_dist.specs.Limits.{processor_limit}
 
 -- a dimension from low to high, divided over n processors
 pub record Divided : Type 0 where
@@ -20,15 +22,15 @@ before low t = unsigned_abs (t -ℤ low)
 
 -- bounds of an index space (this project sets the limits)
 pub record AreBounds (low high : ℤ) : Type 0 where
-  pub least : neg_ℤ (pos (2 ^ 31 - 1)) ≤ℤ low
+  pub least : neg_ℤ (pos integer_limit) ≤ℤ low
   pub order : low ≤ℤ high
-  pub greatest : high ≤ℤ pos (2 ^ 31 - 1)
-  pub positions : extent low high ≤ 2 ^ 31 - 1
+  pub greatest : high ≤ℤ pos integer_limit
+  pub positions : extent low high ≤ integer_limit
 
 -- a number of processors (this project sets the limit)
 pub record AreProcs (n : ℕ) : Type 0 where
   pub least : 1 ≤ n
-  pub greatest : n ≤ 64
+  pub greatest : n ≤ processor_limit
 
 -- A dimension that may be: bounds, a number of processors, and a format that suits them.
 pub record IsAxis (axis : Divided) : Type 0 where

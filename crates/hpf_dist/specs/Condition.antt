@@ -1,16 +1,17 @@
 -- The condition of a format over d positions and n processors, and what is broken of it (High Performance Fortran 2.0,
 -- Data Mapping, DISTRIBUTE; for GEN_BLOCK and INDIRECT this project defines it, and it names the refusals).
-use Rattle.std.specs.Prelude.{ℕ, ◌≡◌, ◌≢◌, ◌-◌, ◌*◌, ◌^◌, ◌<◌, ◌≤◌, List, length, All}
+use Rattle.std.specs.Prelude.{ℕ, ◌≡◌, ◌≢◌, ◌*◌, ◌<◌, ◌≤◌, List, length, All}
 use Rattle.std.specs.List.{Any, sum}
 use Rattle.hpf_dist.specs.declared.format.Format.{Format}
 use Rattle.hpf_dist.specs.declared.format.Format.TheVariants.{Block, Cyclic, GenBlock, Indirect}
 use Rattle.hpf_dist.specs.declared.refusal.AxisRefusal.{AxisRefusal}
 use Rattle.hpf_dist.specs.declared.refusal.AxisRefusal.TheVariants.{BlockTooSmall, WidthZero, LengthCount, LengthSum, PlaceCount, PlaceValue}
+use Rattle.hpf_num.specs.Limits.{integer_limit}
 
 -- the numbers of a format are within the limit that this project sets
 abbrev pub HasSmallNumbers : Format → Type 0
-HasSmallNumbers (Block width) = width ≤ 2 ^ 31 - 1
-HasSmallNumbers (Cyclic width) = width ≤ 2 ^ 31 - 1
+HasSmallNumbers (Block width) = width ≤ integer_limit
+HasSmallNumbers (Cyclic width) = width ≤ integer_limit
 HasSmallNumbers (GenBlock lengths) = Unit {0}
 HasSmallNumbers (Indirect places) = Unit {0}
 

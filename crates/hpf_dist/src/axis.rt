@@ -13,6 +13,7 @@ use crate::around::{Around, in_block};
 use crate::condition::refusal_of;
 use crate::format::Format;
 use crate::refusal::AxisRefusal;
+use hpf_num::Run;
 use std::alloc::Global;
 use std::marker::Model;
 
@@ -60,7 +61,8 @@ impl Axis {
         ensures refused { (refusal : AxisRefusal)
             → (result ≡ Err refusal) ↔ Breaks (extent low high) procs format refusal }
     {
-        match refusal_of(extent_of(low, high), procs, &format) {
+        let positions = Run { low, high }.extent();
+        match refusal_of(positions, procs, &format) {
             Some(refusal) => Err(refusal),
             None => Ok(Axis {
                 low,
@@ -159,14 +161,6 @@ impl Axis {
         }
         false
     }
-}
-
-/// How many positions lie from `low` to `high`.
-fn extent_of(low: i64, high: i64) -> u64
-    requires { AreBounds low high }
-    ensures { result ≡ extent low high }
-{
-    (high - low) as u64 + 1
 }
 
 /// The width of the blocks, in positions, by which so many positions are divided evenly over so many processors:

@@ -5,6 +5,7 @@ ghost use Rattle.std.specs.List.{sum};
 ghost use Rattle.hpf_dist.specs.Around.{IsAround};
 ghost use Rattle.hpf_dist.specs.Sums.{sum_of_first, sums};
 ghost use Rattle.hpf_dist.specs.declared.format.Format.{Format};
+ghost use Rattle.hpf_dist.specs.Limits.{processor_limit};
 
 use crate::around::Around;
 use std::alloc::{AllocError, Global};
@@ -61,7 +62,7 @@ impl Lengths {
     /// The coordinate of the block that has the position with so many before it.
     pub(crate) fn block_of(&self, before: u64) -> u32
         requires within { before < sum self.now }
-        requires few { length self.now ≤ 64 }
+        requires few { length self.now ≤ processor_limit }
         ensures from { sum_of_first self.now result ≤ before }
         ensures to { before < sum_of_first self.now (result + 1) }
         ensures below { result < length self.now }
@@ -74,7 +75,7 @@ impl Lengths {
     /// The positions around the one with so many before it, in its block.
     pub(crate) fn around(&self, before: u64) -> Around
         requires within { before < sum self.now }
-        requires few { length self.now ≤ 64 }
+        requires few { length self.now ≤ processor_limit }
         ensures { (n : ℕ) → length self.now ≤ n → IsAround (Format.GenBlock self.now) n before result }
     {
         let block = self.block_of(before) as usize;

@@ -3,6 +3,7 @@
 ghost use Rattle.std.specs.Prelude.{◌≡◌, ◌-◌, ◌^◌, ◌≤◌, IfOk, unsigned_abs};
 ghost use Rattle.hpf_num.specs.Runs.{IsInLimits};
 ghost use Rattle.hpf_dist.specs.Shares.{is_share, shares};
+ghost use Rattle.hpf_num.specs.Limits.{integer_limit};
 
 use crate::axis::Axis;
 use hpf_num::{Run, Runs};
@@ -19,7 +20,7 @@ impl Axis {
         b: i64,
         bounds: Run,
     ) -> Result<Runs, AllocError>
-        requires factor { unsigned_abs a ≤ 2 ^ 31 - 1 }
+        requires factor { unsigned_abs a ≤ integer_limit }
         requires offset { unsigned_abs b ≤ 2 ^ 62 }
         requires limits { IsInLimits bounds }
         ensures { IfOk result (λ runs. runs ≡ shares self.now c a b bounds) }

@@ -28,6 +28,11 @@ lent_is x is straight =
     sym (first-home (lent x.sent)) ∙ ap (map f) (is.straight straight) ∙ map-append f (map home_of x.taken) (map (home_with x.size) x.out)
     ∙ ap (λ (l : List ℕ). l ++ map f (map (home_with x.size) x.out)) (first-home x.taken) ∙ ap (λ (l : List ℕ). numbers_taken x ++ l) (first-sized x.size x.out)
 
+-- each was lent as often as it was taken back, and once more where it is missing at home
+pub count_is : (x : Lending) (k : ℕ) → IsLender x → x.strayed ≡ false → times k (numbers_lent x) ≡ times k (numbers_taken x) + away 0 x.shelf k
+count_is x k is straight =
+    ap (times k) (lent_is x is straight) ∙ times-append k (numbers_taken x) x.out ∙ ap (λ (n : ℕ). times k (numbers_taken x) + n) (is.places k)
+
 one_or_none : (n : ℕ) → n ≤ 1 → (n ≡ 0) ⊎ (n ≡ 1)
 one_or_none zero h = inl refl
 one_or_none (suc zero) h = inr refl
@@ -36,8 +41,7 @@ one_or_none (suc (suc n)) h = absurd (omega arith)
 pub keeps_law : (x : Lending) → IsLender x → x.strayed ≡ false → Lawful (length x.shelf) (numbers_lent x) (numbers_taken x)
 keeps_law x is straight =
     let e = lent_is x is straight in
-    let count : (k : ℕ) → times k (numbers_lent x) ≡ times k (numbers_taken x) + away 0 x.shelf k =
-    λ k. ap (times k) e ∙ times-append k (numbers_taken x) x.out ∙ ap (λ (n : ℕ). times k (numbers_taken x) + n) (is.places k) in
+    let count : (k : ℕ) → times k (numbers_lent x) ≡ times k (numbers_taken x) + away 0 x.shelf k = λ k. count_is x k is straight in
     record {
       home_or_out = λ k _. elim (one_or_none (away 0 x.shelf k) (away-le x.shelf 0 k)) [ inl z ↦ inl (omega (arith, count k)) | inr o ↦ inr (omega (arith, count k)) ];
       no_other = λ k past. (let z : away 0 x.shelf k ≡ 0 = away-past x.shelf 0 k (omega arith) in omega (arith, count k));
@@ -48,9 +52,7 @@ keeps_law x is straight =
 pub least_is_home : (x : Lending) (b : Plain) → IsLender x → x.strayed ≡ false → least x.shelf ≡ Some b
     → IsLeastHome (length x.shelf) (numbers_lent x) (numbers_taken x) b.number
 least_is_home x b is straight first =
-    let e = lent_is x is straight in
-    let count : (k : ℕ) → times k (numbers_lent x) ≡ times k (numbers_taken x) + away 0 x.shelf k =
-    λ k. ap (times k) e ∙ times-append k (numbers_taken x) x.out ∙ ap (λ (n : ℕ). times k (numbers_taken x) + n) (is.places k) in
+    let count : (k : ℕ) → times k (numbers_lent x) ≡ times k (numbers_taken x) + away 0 x.shelf k = λ k. count_is x k is straight in
     let o = least-others x.size 0 x.shelf b is.shelved first in
     record {
       numbered = (let h = o.1 in omega arith);

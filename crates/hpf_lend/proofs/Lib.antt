@@ -1,7 +1,13 @@
+pub mod AfterMeeting
+pub mod Channels
+pub mod Filling
 pub mod Giving
+pub mod GoingOn
 pub mod Histories
 pub mod Keeps
 pub mod Lending
 pub mod Meeting
+pub mod Prefixes
 pub mod Shelves
+pub mod Streams
 pub mod Waiting

@@ -1,8 +1,6 @@
 -- An end that has found nothing is as it was, and will look.
-use Rattle.std.proofs.Common.{◌≡◌, ℕ, Bool, false, List, [], Option}
-use Rattle.hpf_lend.specs.declared.message.Message.{Message}
-use Rattle.hpf_lend.specs.Plain.{Plain}
-use Rattle.hpf_lend.specs.Lending.{Lending, Ring}
+use Rattle.std.proofs.Common.{◌≡◌, false, []}
+use Rattle.hpf_lend.specs.Lending.{Lending}
 use Rattle.hpf_lend.specs.Borrowing.{Borrowing}
 use Rattle.hpf_lend.specs.Calls.{LenderWaits, NothingHome, BorrowerWaits, NothingCame}
 

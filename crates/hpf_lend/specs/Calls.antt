@@ -38,9 +38,10 @@ pub record Lends (old new : Lending) (frame : ℕ) (buffer : Plain) : Type 0 whe
 pub record Ends (old new : Lending) (kind : EndKind) : Type 0 where
   pub change : new ≡ record old { sent = old.sent ++ End kind ∷ []; kept = new.kept }
 
--- The buffer that was out longest came home.
+-- The buffer that was out longest came home, with its own length.
 pub record ComesHome (old new : Lending) (buffer : Plain) : Type 0 where
   pub longest : old.out ≡ buffer.number ∷ new.out
+  pub size : length buffer.values ≡ old.size
   pub change : new ≡ record old {
     shelf = with_buffer old.shelf buffer;
     out = new.out;
@@ -57,15 +58,16 @@ pub record Strays (old new : Lending) (buffer : Plain) : Type 0 where
 abbrev pub KeepsAll : Lending → Type 0
 KeepsAll x = length x.out ≤ length (lent x.kept)
 
--- Something was taken back: the first that was known, or, where nothing was known and the ends haven't just met, what the
--- ring then had.
+-- Something was taken back: the first that was known, or, where nothing was known and the ends haven't just met, what
+-- the ring then had.
 pub record TakesBack (old new : Lending) : Type 0 where
   pub straight : old.strayed ≡ false
   pub buffer : Plain
   pub next : (old.known ≡ buffer ∷ new.known) ⊎ ((old.known ≡ []) × (old.fresh ≡ false))
   pub result : ComesHome old new buffer ⊎ Strays old new buffer
 
--- Nothing was taken back: the lender may take nothing, and all stays; or it knew of nothing that waits, and found nothing.
+-- Nothing was taken back: the lender may take nothing, and all stays; or it knew of nothing that waits, and found
+-- nothing.
 pub data LenderWaits (old new : Lending) : Type 0 where
   HoldsBack : (KeepsAll old ⊎ (old.strayed ≡ true)) → new ≡ old → LenderWaits old new
   NothingHome : old.known ≡ [] → new ≡ record old { fresh = false } → LenderWaits old new
@@ -80,7 +82,8 @@ pub record Takes (old new : Borrowing) (message : Message) : Type 0 where
 abbrev pub IsFull : Borrowing → Type 0
 IsFull y = y.buffers < length y.kept
 
--- Nothing was taken: no more could be kept, and all stays; or the borrower knew of nothing that waits, and found nothing.
+-- Nothing was taken: no more could be kept, and all stays; or the borrower knew of nothing that waits, and found
+-- nothing.
 pub data BorrowerWaits (old new : Borrowing) : Type 0 where
   HasNoRoom : IsFull old → new ≡ old → BorrowerWaits old new
   NothingCame : old.known ≡ [] → new ≡ record old { fresh = false } → BorrowerWaits old new

@@ -7,8 +7,8 @@ use Rattle.hpf_lend.specs.Streams.{IsPrefix, frames_of, homes_of}
 use Rattle.hpf_lend.specs.Lending.{Lending}
 use Rattle.hpf_lend.specs.Borrowing.{Borrowing}
 
--- A borrower's end: where its route leads in the held part, what it received and gave back, what it knows to wait for it, how
--- many frames were gathered into the part, and whether its worker took a message that is not well formed.
+-- A borrower's end: where its route leads in the held part, what it received and gave back, what it knows to wait for
+-- it, how many frames were gathered into the part, and whether its worker took a message that is not well formed.
 pub record Entry : Type 0 where
   pub places : List ℕ
   pub received : List Message
@@ -17,8 +17,8 @@ pub record Entry : Type 0 where
   pub gathered : ℕ
   pub lost : Bool
 
--- A lender's end: the places in the owned part that its route takes, how many buffers it has, what it sent and took back,
--- which homes it knows to wait for it, and whether it has strayed.
+-- A lender's end: the places in the owned part that its route takes, how many buffers it has, what it sent and took
+-- back, which homes it knows to wait for it, and whether it has strayed.
 pub record Exit : Type 0 where
   pub places : List ℕ
   pub buffers : ℕ
@@ -54,7 +54,8 @@ AreBuffers n [] = Unit {0}
 AreBuffers n (home ∷ homes) =
     (home.number < n) × AllByRecursion (λ other. ¬ (home.number ≡ other.number)) homes × AreBuffers n homes
 
--- Of n buffers those that are out were lent last, in this order, each once; the others came back in the order of lending.
+-- Of n buffers those that are out were lent last, in this order, each once; the others came back in the order of
+-- lending.
 pub record IsLending (n : ℕ) (lent back : List Home) : Type 0 where
   pub out : List Home
   pub in_order : back ++ out ≡ lent
@@ -72,20 +73,32 @@ pub record BorrowsAt (entry : Entry) : Type 0 where
   pub hand : length entry.received ≤ entry.gathered + 1
   pub returned : entry.returned ≡ take entry.gathered (homes_of entry.received)
 
--- The two ends of one channel: what was received begins what was sent, and what was taken back begins what was returned.
+-- The two ends of one channel: what was received begins what was sent, and what was taken back begins what was
+-- returned.
 pub record AreJoined (exit : Exit) (entry : Entry) : Type 0 where
   pub received : IsPrefix entry.received exit.sent
   pub taken_back : IsPrefix exit.taken_back entry.returned
 
--- An entry has gone on: it took of what it knew to wait, and returned what it had returned and maybe more.
+-- The two ends of one channel have met: each knows of all that waits for it, which is at most a message for each
+-- buffer and an end one way, and the buffers the other way.
+pub record KnowAll (exit : Exit) (entry : Entry) : Type 0 where
+  pub messages : entry.received ++ entry.knows ≡ exit.sent
+  pub homes : exit.taken_back ++ exit.knows ≡ entry.returned
+  pub few_messages : length entry.knows ≤ exit.buffers + 1
+  pub few_homes : length exit.knows ≤ exit.buffers
+
+-- An entry has gone on: it received some of what it knew to wait, or nothing, and returned what it had returned and
+-- maybe more.
 pub record EntryGoesOn (old new : Entry) : Type 0 where
   pub places : new.places ≡ old.places
-  pub received : IsPrefix new.received (old.received ++ old.knows)
+  pub more : IsPrefix old.received new.received
+  pub received : new.received ++ new.knows ≡ old.received ++ old.knows
   pub returned : IsPrefix old.returned new.returned
 
--- An exit has gone on: it sent what it had sent and maybe more, and took back of what it knew to wait.
+-- An exit has gone on: it sent what it had sent and maybe more, and took back some of what it knew to wait, or nothing.
 pub record ExitGoesOn (old new : Exit) : Type 0 where
   pub places : new.places ≡ old.places
   pub buffers : new.buffers ≡ old.buffers
   pub sent : IsPrefix old.sent new.sent
-  pub taken_back : IsPrefix new.taken_back (old.taken_back ++ old.knows)
+  pub more : IsPrefix old.taken_back new.taken_back
+  pub taken_back : new.taken_back ++ new.knows ≡ old.taken_back ++ old.knows

@@ -52,7 +52,8 @@ IsLegalAfter n before (e ∷ events) =
 abbrev pub IsLegal : ℕ → List Event → Type 0
 IsLegal n events = IsLegalAfter n [] events
 
--- A history of a lender that hasn't strayed: what it lent and took back so far, event by event, and the law held after each.
+-- A history of a lender that hasn't strayed: what it lent and took back so far, event by event, and the law held
+-- after each.
 pub record IsHistory (events : List Event) (x : Lending) : Type 0 where
   pub lent : lent_in events ≡ numbers_lent x
   pub back : back_in events ≡ numbers_taken x

@@ -6,7 +6,7 @@ use Rattle.std.specs.declared.alloc.Global.{Global}
 use Rattle.rtrb.specs.Shared.{Names}
 use Rattle.rtrb.specs.declared.end.End.{End}
 use Rattle.hpf_lend.specs.declared.message.Message.{Message}
-use Rattle.hpf_lend.specs.Plain.{Plain, Home, home_of, home_with}
+use Rattle.hpf_lend.specs.Plain.{Plain, home_of, home_with}
 use Rattle.hpf_lend.specs.Shelf.{times, away, homes, IsShelf}
 use Rattle.hpf_lend.specs.Messages.{lent, IsClosed}
 

@@ -45,7 +45,8 @@ impl Borrower {
     pub(crate) fn new(inbox: Consumer<Message>, outbox: Outbox<Buffer>, buffers: usize) -> Borrower
         requires few { (1 ≤ buffers) × (buffers ≤ 8) }
         requires inbox { (received inbox ≡ []) × (known_items inbox ≡ []) }
-        requires outbox { (sent_by outbox ≡ []) × (outbox.kept.items ≡ []) × (producer_capacity outbox.ring ≡ buffers) × (deque_capacity outbox.kept ≡ buffers + 1) }
+        requires outbox { (sent_by outbox ≡ []) × (outbox.kept.items ≡ [])
+            × (producer_capacity outbox.ring ≡ buffers) × (deque_capacity outbox.kept ≡ buffers + 1) }
         ensures starts { BorrowerStarts result buffers }
         ensures rings { (result.forward ≡ ring_of inbox.end) × (result.back ≡ ring_of outbox.ring.end) }
     {
@@ -63,7 +64,8 @@ impl Borrower {
         requires { self.old.hand ≡ None }
         ensures end { SameBorrower self.old self.new }
         ensures lawful { IsBorrower self.new }
-        ensures answer { MatchAnswer result ((m : Message) × Takes self.old self.new m) (BorrowerWaits self.old self.new) }
+        ensures answer { MatchAnswer result ((m : Message) × Takes self.old self.new m)
+            (BorrowerWaits self.old self.new) }
 
         // A message that is known is taken, unless no more could be kept; just after the ends have met, no other is.
         ensures known { 0 < length self.old.known → length self.old.kept ≤ self.old.buffers → result ≡ Done }

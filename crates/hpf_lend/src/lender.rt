@@ -53,6 +53,7 @@ impl Lender {
     ghost use Rattle.hpf_lend.specs.Starts.{LenderStarts};
     ghost use Rattle.std.specs.Prelude.{IfSome, IsNone, IsTrue};
     ghost use Rattle.std.specs.Borrow.{sem};
+    ghost use mathlib.Core.List.{IsPrefix};
     ghost use Rattle.hpf_lend.specs.Filling.{LendsLeast};
     ghost use Rattle.hpf_lend.specs.Borrowing.{IsBorrower, IsPair, HaveMet, SameLender, SameBorrower};
 
@@ -66,7 +67,8 @@ impl Lender {
         requires few { (1 ≤ length shelf.items) × (length shelf.items ≤ 8) }
         requires home { IsShelf size 0 shelf.items × (homes shelf.items ≡ length shelf.items) }
         requires out { (out.items ≡ []) × (deque_capacity out ≡ length shelf.items) }
-        requires outbox { (sent_by outbox ≡ []) × (outbox.kept.items ≡ []) × (producer_capacity outbox.ring ≡ length shelf.items + 1) × (deque_capacity outbox.kept ≡ length shelf.items + 1) }
+        requires outbox { (sent_by outbox ≡ []) × (outbox.kept.items ≡ [])
+            × (producer_capacity outbox.ring ≡ length shelf.items + 1) × (deque_capacity outbox.kept ≡ length shelf.items + 1) }
         requires inbox { (received inbox ≡ []) × (known_items inbox ≡ []) }
         ensures starts { LenderStarts result (length shelf.items) size }
         ensures history { IsHistory [] result }
@@ -88,7 +90,8 @@ impl Lender {
     pub fn home(&self) -> u32
         ensures home { result ≡ homes self.now.shelf }
         ensures lawful { IsLender self.now }
-        ensures law { self.now.strayed ≡ false → Lawful (length self.now.shelf) (numbers_lent self.now) (numbers_taken self.now) }
+        ensures law { self.now.strayed ≡ false
+            → Lawful (length self.now.shelf) (numbers_lent self.now) (numbers_taken self.now) }
     {
         count(self.shelf.as_slice()) as u32
     }
@@ -98,13 +101,16 @@ impl Lender {
         requires home { 0 < homes self.old.shelf }
         requires unended { ends self.old.sent ≡ 0 }
         ensures end { SameLender self.old self.new }
-        ensures answer { MatchAnswer result ((buffer : Plain) × Lends self.old self.new frame buffer) (self.new ≡ self.old) }
+        ensures answer { MatchAnswer result ((buffer : Plain) × Lends self.old self.new frame buffer)
+            (self.new ≡ self.old) }
         ensures waits { (result ≡ Waits) ↔ (self.old.strayed ≡ true) }
         ensures first { length self.new.sent ≤ length self.new.shelf + 1 → result ≡ Done → self.new.kept ≡ [] }
         ensures unended { ends self.new.sent ≡ 0 }
         ensures lawful { IsLender self.new }
-        ensures history { IfSome (least self.old.shelf) (λ b. result ≡ Done → GoesOnWith (Lent b.number) self.old self.new) }
-        ensures least { IfSome (least self.old.shelf) (λ b. self.old.strayed ≡ false → IsLeastHome (length self.old.shelf) (numbers_lent self.old) (numbers_taken self.old) b.number) }
+        ensures history { IfSome (least self.old.shelf) (λ b. result ≡ Done
+            → GoesOnWith (Lent b.number) self.old self.new) }
+        ensures least { IfSome (least self.old.shelf) (λ b. self.old.strayed ≡ false
+            → IsLeastHome (length self.old.shelf) (numbers_lent self.old) (numbers_taken self.old) b.number) }
     {
         if self.strayed {
             return Answer::Waits;
@@ -144,11 +150,14 @@ impl Lender {
         ensures sent { self.new.sent ≡ self.old.sent }
 
         // What is known is taken back, unless all that is out is kept; just after the ends have met, nothing else is.
-        ensures known { 0 < length self.old.known → self.old.strayed ≡ false → length (lent self.old.kept) < length self.old.out → result ≡ Done }
+        ensures known { 0 < length self.old.known → self.old.strayed ≡ false
+            → length (lent self.old.kept) < length self.old.out → result ≡ Done }
         ensures fresh { self.old.fresh ≡ true → self.old.known ≡ [] → result ≡ Waits }
         ensures held_back { KeepsAll self.old → result ≡ Waits }
         ensures lawful { IsLender self.new }
-        ensures history { (buffer : Plain) → ComesHome self.old self.new buffer → GoesOnWith (Back buffer.number) self.old self.new }
+        ensures history { (buffer : Plain) → ComesHome self.old self.new buffer
+            → GoesOnWith (Back buffer.number) self.old self.new }
+        ensures same_history { result ≡ Waits → KeepsHistory self.old self.new }
     {
         if self.strayed || frames_in(&self.outbox.kept) >= self.out.len() {
             return Answer::Waits;
@@ -179,8 +188,8 @@ impl Lender {
         self.outbox.flush();
     }
 
-    /// The values of the buffer at home that has the least number. `None` exactly where none is at home. No clause says what
-    /// the lender is after they were written: `least_values` does.
+    /// The values of the buffer at home that has the least number. `None` exactly where none is at home. No clause
+    /// says what the lender is after they were written: `least_values` does.
     pub fn buffer(&mut self) -> Option<&mut [i32]>
         ensures none { IsNone result ↔ (homes self.old.shelf ≡ 0) }
         ensures value { IfSome result (λ r. IfSome (least self.old.shelf) (λ b. r.now ≡ b.values)) }
@@ -220,9 +229,11 @@ impl Lender {
     /// Lets both ends of one channel know all that waits for them. No list changes.
     pub fn meet(&mut self, borrower: &mut Borrower)
         requires { IsPair self.old borrower.old }
-        ensures ends { SameLender self.old self.new × SameBorrower borrower.old borrower.new × IsPair self.new borrower.new }
+        ensures ends { SameLender self.old self.new × SameBorrower borrower.old borrower.new
+            × IsPair self.new borrower.new }
         ensures lender { self.new ≡ record self.old { kept = []; known = self.new.known; fresh = true } }
         ensures borrower { borrower.new ≡ record borrower.old { kept = []; known = borrower.new.known; fresh = true } }
+        ensures knew { IsPrefix self.old.known self.new.known × IsPrefix borrower.old.known borrower.new.known }
         ensures straight { self.old.strayed ≡ false }
         ensures lawful { IsLender self.new × IsBorrower borrower.new }
         ensures history { KeepsHistory self.old self.new }

@@ -1,7 +1,8 @@
 //! Both ends of one channel.
 
 ghost use Rattle.std.specs.Prelude.{◌≡◌, ◌≤◌, [], IfOk};
-ghost use Rattle.hpf_lend.specs.Borrowing.{IsPair};
+ghost use Rattle.hpf_lend.specs.Lending.{IsLender};
+ghost use Rattle.hpf_lend.specs.Borrowing.{IsBorrower, IsPair};
 ghost use Rattle.hpf_lend.specs.Starts.{LenderStarts, BorrowerStarts};
 ghost use Rattle.hpf_lend.specs.History.{IsHistory};
 
@@ -25,6 +26,7 @@ impl Pair {
     pub fn new(alloc: Global, buffers: u32, length: u64) -> Result<Pair, AllocError>
         requires { (1 ≤ buffers) × (buffers ≤ 8) }
         ensures pair { IfOk result (λ p. IsPair p.lender p.borrower) }
+        ensures lawful { IfOk result (λ p. IsLender p.lender × IsBorrower p.borrower) }
         ensures lender { IfOk result (λ p. LenderStarts p.lender buffers length) }
         ensures history { IfOk result (λ p. IsHistory [] p.lender) }
         ensures borrower { IfOk result (λ p. BorrowerStarts p.borrower buffers) }

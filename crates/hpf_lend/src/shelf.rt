@@ -90,8 +90,10 @@ pub(crate) fn frames_in(messages: &VecDeque<Message>) -> usize
 
 /// Whether this buffer, with so many values, is the one that was out longest.
 pub(crate) fn comes_first(out: &VecDeque<u32>, size: usize, buffer: &Buffer) -> bool
-    ensures yes { IsTrue result → (rest : List ℕ) × (out.now.items ≡ buffer.now.number ∷ rest) × (home_of buffer.now ≡ home_with size buffer.now.number) }
-    ensures no { IsFalse result → (rest : List ℕ) (longest : ℕ) → out.now.items ≡ longest ∷ rest → home_of buffer.now ≡ home_with size longest → ⊥ }
+    ensures yes { IsTrue result → (rest : List ℕ) × (out.now.items ≡ buffer.now.number ∷ rest)
+        × (home_of buffer.now ≡ home_with size buffer.now.number) }
+    ensures no { IsFalse result → (rest : List ℕ) (longest : ℕ) → out.now.items ≡ longest ∷ rest
+        → home_of buffer.now ≡ home_with size longest → ⊥ }
 {
     match out.front() {
         Some(longest) => *longest == buffer.number() && buffer.values().len() == size,

@@ -289,7 +289,7 @@ record IsGiven (m : Meaning) : Type 0 where
   constant : HasConstant m
 
 meaning_given : (has_shape : Bool) (bounds : Option (List Span)) (what : Given) → is_some bounds ≡ true → HasGiven what → breaks_rank has_shape bounds what ≡ false
-    → IsGiven (constant_meaning has_shape true what)
+    → IsGiven (constant_meaning has_shape true bounds what)
 meaning_given false bounds (given.One value) some h right = record { whole = is_there value h; constant = h }
 meaning_given false bounds (given.Many values) some h right = absurd cc
 meaning_given true None what some h right = absurd cc
@@ -302,15 +302,12 @@ unfolding constant_name has_wrong_rank
 constant_ready common before d full right some there =
     let has_shape : Bool = not ((constant_dimensions common before d).count == 0) in
     let free : not (is_full before || has_wrong_rank common before d) ≡ true = neither (is_full before) (has_wrong_rank common before d) full right in
-    let whole : IsGiven (constant_meaning has_shape true (given_of before d.value)) =
-    meaning_given has_shape (constant_dimensions common before d).shape (given_of before d.value) some there right in
-    let is : IsGiven (constant_meaning has_shape (not (is_full before || has_wrong_rank common before d)) (given_of before d.value)) =
-    subst (λ b. IsGiven (constant_meaning has_shape b (given_of before d.value))) (sym free) whole in
+    let bounds : Option (List Span) = (constant_dimensions common before d).shape in
+    let whole : IsGiven (constant_meaning has_shape true bounds (given_of before d.value)) =
+    meaning_given has_shape bounds (given_of before d.value) some there right in
+    let is : IsGiven (constant_meaning has_shape (not (is_full before || has_wrong_rank common before d)) bounds (given_of before d.value)) =
+    subst (λ b. IsGiven (constant_meaning has_shape b bounds (given_of before d.value))) (sym free) whole in
     record { fit = record { free = free; whole = is.whole }; constant = is.constant }
-
-rank_right : (full wrong : Bool) → full ≡ false → (not full && wrong) ≡ false → wrong ≡ false
-rank_right true wrong f h = absurd cc
-rank_right false wrong f h = h
 
 with_constant_ready : (common : Dimensions) → is_some common.shape ≡ true → (before : List name.Name) (d : ConstantTree)
     → All IsReady before → constant_breaches common before d ≡ [] → All IsReady (with_constant common before d)
@@ -320,7 +317,7 @@ with_constant_ready common some before d h none =
     let full : is_full before ≡ false = not_full before d.name (first_empty _ _ (first_empty _ _ (first_empty _ _ none))) in
     let own : is_some (shape before max_extent d.shape) ≡ true = shape_there before usable max_extent d.shape (others_empty _ _ (first_empty _ _ (first_empty _ _ none))) in
     let there : HasGiven (given_of before d.value) = given_there before usable d.value (others_empty _ _ (first_empty _ _ none)) in
-    let right : has_wrong_rank common before d ≡ false = rank_right (is_full before) (has_wrong_rank common before d) full (breach_if_none _ Rank d.name.at (others_empty _ _ none)) in
+    let right : has_wrong_rank common before d ≡ false = breach_if_none _ Rank d.name.at (others_empty _ _ none) in
     declare_ready before _ h
     (constant_ready common before d full right (chosen_there common (dimensions_of max_extent before d.shape) some own) there)
 

@@ -237,15 +237,15 @@ given_in : (before : List name.Name) → AreSoundNames before → (v : ValueTree
 given_in before h (One e) = value_in before h e
 given_in before h (Many es) = tt
 
-meaning_in : (has_shape free : Bool) (what : Given) → IfSome (one_given what) IsInRange → IsSoundMeaning (constant_meaning has_shape free what)
-meaning_in false true what h = h
-meaning_in false false what h = tt
-meaning_in true true what h = tt
-meaning_in true false what h = tt
+meaning_in : (has_shape free : Bool) (shape : Option (List Span)) (what : Given) → IfSome (one_given what) IsInRange → IsSoundMeaning (constant_meaning has_shape free shape what)
+meaning_in false true shape what h = h
+meaning_in false false shape what h = tt
+meaning_in true true shape what h = tt
+meaning_in true false shape what h = tt
 
 with_constant_sound : (common : Dimensions) (before : List name.Name) (d : ConstantTree) → AreSoundNames before → AreSoundNames (with_constant common before d)
 unfolding with_constant constant_name
-with_constant_sound common before d h = declare_sound before _ h (meaning_in _ _ (given_of before d.value) (given_in before h d.value))
+with_constant_sound common before d h = declare_sound before _ h (meaning_in _ _ _ (given_of before d.value) (given_in before h d.value))
 
 all_constants_sound : (common : Dimensions) (ds : List ConstantTree) (before : List name.Name) → AreSoundNames before → AreSoundNames (fold (with_constant common) before ds)
 all_constants_sound common [] before h = h

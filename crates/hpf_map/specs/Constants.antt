@@ -47,9 +47,14 @@ abbrev pub list_given : Given → Option (List ℤ)
 list_given (given.One value) = None
 list_given (given.Many values) = values
 
+-- the list of a constant with a shape, where that is free too
+abbrev pub list_within : Option (List Span) → Given → Option (List ℤ)
+list_within None what = None
+list_within (Some spans) what = list_given what
+
 -- what a constant is, which holds nothing where the name isn't free
-abbrev pub constant_meaning : (has_shape free : Bool) → Given → Meaning
-constant_meaning false true what = meaning.Constant (one_given what)
-constant_meaning false false what = meaning.Constant None
-constant_meaning true true what = meaning.List (list_given what)
-constant_meaning true false what = meaning.List None
+abbrev pub constant_meaning : (has_shape free : Bool) → Option (List Span) → Given → Meaning
+constant_meaning false true shape what = meaning.Constant (one_given what)
+constant_meaning false false shape what = meaning.Constant None
+constant_meaning true true shape what = meaning.List (list_within shape what)
+constant_meaning true false shape what = meaning.List None

@@ -1,6 +1,6 @@
 -- What statements declare, name by name (Fortran 90, INTEGER and PARAMETER; High Performance Fortran 2.0, Data Mapping,
 -- PROCESSORS and TEMPLATE).
-use Rattle.std.specs.Prelude.{ℕ, List, [], ◌∷◌, ◌++◌, length, Bool, not, ◌&&◌, ◌||◌, ◌==◌, Option, Some, None, is_some, if◌then◌else◌, fold}
+use Rattle.std.specs.Prelude.{ℕ, List, [], ◌∷◌, ◌++◌, length, Bool, not, ◌||◌, ◌==◌, Option, Some, None, is_some, if◌then◌else◌, fold}
 use Rattle.std.specs.List.{list_any}
 use Rattle.hpf_lex.specs.declared.refusal.MapRefusal.{MapRefusal}
 use Rattle.hpf_syntax.specs.declared.tree.Spot.{Spot}
@@ -81,14 +81,16 @@ module _ (common : Dimensions) where
   has_wrong_rank before d =
       breaks_rank (not ((constant_dimensions before d).count == 0)) (constant_dimensions before d).shape (given_of before d.value)
 
-  -- The rank is tested where the name isn't the first too many. A name for which either holds isn't free.
+  -- A name that is the first too many, or whose rank is wrong, isn't free.
   unfoldable pub constant_name : List Name → ConstantTree → Name
   constant_name before d =
       let free = not (is_full before || has_wrong_rank before d) in
       record {
         word = d.name.word;
         free = free;
-        meaning = constant_meaning (not ((constant_dimensions before d).count == 0)) free (given_of before d.value);
+        meaning =
+            constant_meaning (not ((constant_dimensions before d).count == 0)) free (constant_dimensions before d).shape
+            (given_of before d.value);
       }
 
   unfoldable pub with_constant : List Name → ConstantTree → List Name
@@ -99,7 +101,7 @@ module _ (common : Dimensions) where
       naming_breaches before d.name
       ++ shape_breaches before max_extent d.shape
       ++ value_breaches before d.value
-      ++ breach_if (not (is_full before) && has_wrong_rank before d) Rank d.name.at
+      ++ breach_if (has_wrong_rank before d) Rank d.name.at
 
 -- ---- statements
 

@@ -44,16 +44,12 @@ fn declare_constant(
     let has_shape = bounds.count != 0;
     let is_full = names.is_full();
     let has_wrong_rank = given.breaks_rank(has_shape, &bounds.shape);
-    breaches.note_if(
-        !is_full && has_wrong_rank,
-        Constraint::Rank,
-        constant.name.at,
-    );
+    breaches.note_if(has_wrong_rank, Constraint::Rank, constant.name.at);
     let free = !(is_full || has_wrong_rank);
     names.declare(Name {
         word: constant.name.word,
         free,
-        meaning: given.meaning(has_shape, free),
+        meaning: given.meaning(has_shape, free, &bounds.shape),
     })
 }
 

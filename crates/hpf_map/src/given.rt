@@ -79,15 +79,15 @@ impl Given {
         }
     }
 
-    /// What a constant is that is given this.
-    pub(crate) fn meaning(self, has_shape: bool, free: bool) -> Meaning
-        ensures { result ≡ constant_meaning has_shape free self }
+    /// What a constant is that is given this. It holds its list where its shape is free too.
+    pub(crate) fn meaning(self, has_shape: bool, free: bool, shape: &Option<Shape>) -> Meaning
+        ensures { result ≡ constant_meaning has_shape free shape.now self }
     {
-        match (has_shape, free, self) {
-            (false, true, Given::One(value)) => Meaning::Constant(value),
-            (false, _, _) => Meaning::Constant(None),
-            (true, true, Given::Many(values)) => Meaning::List(values),
-            (true, _, _) => Meaning::List(None),
+        match (has_shape, free, shape, self) {
+            (false, true, _, Given::One(value)) => Meaning::Constant(value),
+            (false, _, _, _) => Meaning::Constant(None),
+            (true, true, Some(_), Given::Many(values)) => Meaning::List(values),
+            (true, _, _, _) => Meaning::List(None),
         }
     }
 }

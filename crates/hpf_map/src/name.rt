@@ -208,7 +208,7 @@ pub enum Meaning {
     Shaped(Space, Dimensions),
     /// A named constant without bounds.
     Constant(Option<i32>),
-    /// A named constant with bounds.
+    /// A named constant with bounds. It holds its list where its bounds are free too.
     List(Option<Values>),
 }
 

@@ -15,6 +15,7 @@ use Rattle.std.proofs.lemmas.List.Folds.{list_any_at}
 use Rattle.hpf_num.specs.declared.run.Run.{Run}
 use Rattle.hpf_num.specs.Run.{integers, extent, or_zero, LiesWithin}
 use Rattle.hpf_num.specs.Runs.{IsSmall, IsInLimits, AreMembers, has, is_near}
+use Rattle.hpf_num.specs.Limits.{integer_limit}
 
 pub fits_small : (i : ℤ) → IsSmall i → FitsSigned w64 i
 fits_small i h = omega (arith, ints)
@@ -156,21 +157,21 @@ near_none members i low high at s past =
     absurd (omega (arith, ints, n.1)))
 
 -- ---- a linear image of a small integer
-product_small : (a i : ℤ) → unsigned_abs a ≤ 2 ^ 31 - 1 → IsSmall i → unsigned_abs (a *ℤ i) ≤ 2 ^ 62 - 1
+product_small : (a i : ℤ) → unsigned_abs a ≤ integer_limit → IsSmall i → unsigned_abs (a *ℤ i) ≤ 2 ^ 62 - 1
 product_small a i h k =
-    let small : unsigned_abs i ≤ 2 ^ 31 - 1 = omega (arith, ints) in
-    rw (unsigned_abs-mul a i) (omega (arith, mul-le (unsigned_abs a) (unsigned_abs i) (2 ^ 31 - 1) (2 ^ 31 - 1) h small))
+    let small : unsigned_abs i ≤ integer_limit = omega (arith, ints) in
+    rw (unsigned_abs-mul a i) (omega (arith, mul-le (unsigned_abs a) (unsigned_abs i) integer_limit integer_limit h small))
 
 fits_abs : (a : ℤ) (n : ℕ) → unsigned_abs a ≤ n → n < 2 ^ 63 → FitsSigned w64 a
 fits_abs a n h k = fits_signed_from_abs w64 a (omega arith)
 
-pub product_fits : (a i : ℤ) → unsigned_abs a ≤ 2 ^ 31 - 1 → IsSmall i → FitsSigned w64 (a *ℤ i)
+pub product_fits : (a i : ℤ) → unsigned_abs a ≤ integer_limit → IsSmall i → FitsSigned w64 (a *ℤ i)
 product_fits a i h k = fits_abs (a *ℤ i) (2 ^ 62 - 1) (product_small a i h k) (omega arith)
 
 sum_fits : (x b : ℤ) → unsigned_abs x ≤ 2 ^ 62 - 1 → unsigned_abs b ≤ 2 ^ 62 → FitsSigned w64 (x +ℤ b)
 sum_fits x b h k = omega (arith, ints)
 
-pub linear_fits : (a i b : ℤ) → unsigned_abs a ≤ 2 ^ 31 - 1 → IsSmall i → unsigned_abs b ≤ 2 ^ 62 → FitsSigned w64 ((a *ℤ i) +ℤ b)
+pub linear_fits : (a i b : ℤ) → unsigned_abs a ≤ integer_limit → IsSmall i → unsigned_abs b ≤ 2 ^ 62 → FitsSigned w64 ((a *ℤ i) +ℤ b)
 linear_fits a i b h k l = sum_fits (a *ℤ i) b (product_small a i h k) l
 
 -- ---- walking a run

@@ -1,20 +1,21 @@
 -- Ascending lists of different integers, and their runs. (This project defines them.)
-use Rattle.std.specs.Prelude.{◌≡◌, ℕ, ◌-◌, ◌^◌, ◌<◌, ◌≤◌, Bool, true, false, not, ◌&&◌, List, filter, All, AllPairs, length, get_or, slice_get, Some, ℤ, pos, neg_ℤ, ◌+ℤ◌, ◌-ℤ◌, ◌*ℤ◌, ◌≤ℤ◌, ◌<ℤ◌}
+use Rattle.std.specs.Prelude.{◌≡◌, ℕ, ◌-◌, ◌<◌, ◌≤◌, Bool, true, false, not, ◌&&◌, List, filter, All, AllPairs, length, get_or, slice_get, Some, ℤ, pos, neg_ℤ, ◌+ℤ◌, ◌-ℤ◌, ◌*ℤ◌, ◌≤ℤ◌, ◌<ℤ◌}
 use Rattle.std.specs.List.{list_any}
 use Rattle.std.specs.Int.RustNames.{int_le}
 use Rattle.std.specs.Ordering.{int_eq}
 use Rattle.hpf_num.specs.declared.run.Run.{Run}
 use Rattle.hpf_num.specs.Run.{integers, LiesWithin}
+use Rattle.hpf_num.specs.Limits.{integer_limit}
 
 -- the integers that this project's limits allow for subscripts, from -(2^31 - 1) to 2^31 - 1
 pub record IsSmall (i : ℤ) : Type 0 where
-  pub least : neg_ℤ (pos (2 ^ 31 - 1)) ≤ℤ i
-  pub greatest : i ≤ℤ pos (2 ^ 31 - 1)
+  pub least : neg_ℤ (pos integer_limit) ≤ℤ i
+  pub greatest : i ≤ℤ pos integer_limit
 
 -- a run that lies within them
 pub record IsInLimits (run : Run) : Type 0 where
-  pub least : neg_ℤ (pos (2 ^ 31 - 1)) ≤ℤ run.low
-  pub greatest : run.high ≤ℤ pos (2 ^ 31 - 1)
+  pub least : neg_ℤ (pos integer_limit) ≤ℤ run.low
+  pub greatest : run.high ≤ℤ pos integer_limit
 
 -- such integers, each above those before it
 pub record AreMembers (members : List ℤ) : Type 0 where

@@ -4,6 +4,7 @@ ghost use Rattle.std.specs.Prelude.{◌≡◌, ℕ, ◌+◌, ◌-◌, ◌^◌, �
 ghost use Rattle.std.specs.List.{list_any};
 ghost use Rattle.hpf_num.specs.Run.{integers};
 ghost use Rattle.hpf_num.specs.Runs.{IsSmall, IsInLimits, AreMembers, has, common, is_near, widened, preimage, starts, IsRunAt, IsStart, IsLast};
+ghost use Rattle.hpf_num.specs.Limits.{integer_limit};
 
 use crate::run::Run;
 use std::alloc::{AllocError, Global};
@@ -116,8 +117,8 @@ impl Runs {
 
     /// The integers in `bounds` that lie at most `low` below or at most `high` above a member.
     pub fn widen(&self, alloc: Global, low: u64, high: u64, bounds: Run) -> Result<Runs, AllocError>
-        requires low { low ≤ 2 ^ 31 - 1 }
-        requires high { high ≤ 2 ^ 31 - 1 }
+        requires low { low ≤ integer_limit }
+        requires high { high ≤ integer_limit }
         requires limits { IsInLimits bounds }
         ensures { IfOk result (λ runs. runs ≡ widened self.now low high bounds) }
     {
@@ -131,7 +132,7 @@ impl Runs {
 
     /// The integers `i` in `bounds` for which `a * i + b` is a member.
     pub fn preimage(&self, alloc: Global, a: i64, b: i64, bounds: Run) -> Result<Runs, AllocError>
-        requires factor { unsigned_abs a ≤ 2 ^ 31 - 1 }
+        requires factor { unsigned_abs a ≤ integer_limit }
         requires offset { unsigned_abs b ≤ 2 ^ 62 }
         requires limits { IsInLimits bounds }
         ensures { IfOk result (λ runs. runs ≡ preimage self.now a b bounds) }
@@ -167,8 +168,8 @@ impl Runs {
 
     /// Whether `i` lies at most `low` below or at most `high` above a member.
     fn has_near(&self, i: i64, low: u64, high: u64) -> bool
-        requires low { low ≤ 2 ^ 31 - 1 }
-        requires high { high ≤ 2 ^ 31 - 1 }
+        requires low { low ≤ integer_limit }
+        requires high { high ≤ integer_limit }
         requires small { IsSmall i }
         ensures { result ≡ list_any (λ j. is_near low high j i) self.now }
     {

@@ -1,5 +1,5 @@
 -- Elements that correspond under a permutation.
-use Rattle.std.proofs.Common.{◌≡◌, ◌==◌, ℕ, zero, suc, ◌+◌, ◌-◌, ◌<◌, ◌≤◌, cond, List, [], ◌∷◌, length, map, get_or, set, take, below_more, Contains, ℤ, pos, neg_ℤ, ◌+ℤ◌, ◌-ℤ◌, ◌≤ℤ◌, ◌^◌, slice_get, Some, FitsSigned, w64, refl, sym, ap, ◌∙◌, subst, arith, inl, inr, eq-eqb}
+use Rattle.std.proofs.Common.{◌≡◌, ◌==◌, ℕ, zero, suc, ◌+◌, ◌-◌, ◌<◌, ◌≤◌, cond, List, [], ◌∷◌, length, get_or, set, take, below_more, ℤ, pos, neg_ℤ, ◌+ℤ◌, ◌-ℤ◌, ◌≤ℤ◌, ◌^◌, slice_get, Some, FitsSigned, w64, refl, sym, ap, ◌∙◌, subst, arith, inl, inr, eq-eqb}
 use Rattle.std.specs.Prelude.{sum_by}
 use Rattle.std.specs.List.{range_with_len, position_or_len}
 use Rattle.std.specs.List.Sorted.{IsPermutation}
@@ -22,6 +22,7 @@ use Rattle.hpf_own.specs.Correspondence.{bounds_at, offset, source, destination,
 use Rattle.hpf_own.proofs.Indices.{LiesIn-at, LiesIn-length}
 use Rattle.hpf_own.proofs.Order.{at_most, or_zero_is, extent_is, index_with}
 use Rattle.hpf_own.proofs.Perms.{permutation_has}
+use Rattle.hpf_num.specs.Limits.{integer_limit}
 
 -- ---- the entries of a permutation
 -- one where a number is x
@@ -243,7 +244,7 @@ pub record CanMove (low i other : ℤ) : Type 0 where
   pub near : (i -ℤ low) ≤ℤ pos (2 ^ 32)
   pub room : (other +ℤ (i -ℤ low)) ≤ℤ pos (2 ^ 63 - 1)
 
-can_move_small : (low high i other top : ℤ) → neg_ℤ (pos (2 ^ 31 - 1)) ≤ℤ low → low ≤ℤ i → i ≤ℤ high → high ≤ℤ pos (2 ^ 31 - 1) → neg_ℤ (pos (2 ^ 31 - 1)) ≤ℤ other → (other +ℤ (i -ℤ low)) ≤ℤ top → top ≤ℤ pos (2 ^ 31 - 1) → CanMove low i other
+can_move_small : (low high i other top : ℤ) → neg_ℤ (pos integer_limit) ≤ℤ low → low ≤ℤ i → i ≤ℤ high → high ≤ℤ pos integer_limit → neg_ℤ (pos integer_limit) ≤ℤ other → (other +ℤ (i -ℤ low)) ≤ℤ top → top ≤ℤ pos integer_limit → CanMove low i other
 can_move_small low high i other top a b c d e f g =
     record {
       low_fits = omega (arith, ints);

@@ -1,5 +1,5 @@
 -- Indices of an array.
-use Rattle.std.proofs.Common.{◌≡◌, ℕ, zero, suc, ◌-◌, ◌^◌, ◌<◌, ◌≤◌, List, [], ◌∷◌, length, get_or, All, ℤ, pos, ◌≤ℤ◌, unsigned_abs, neg_ℤ, arith, sym, ap, subst, refl}
+use Rattle.std.proofs.Common.{◌≡◌, ℕ, zero, suc, ◌<◌, ◌≤◌, List, [], ◌∷◌, length, get_or, All, ℤ, pos, ◌≤ℤ◌, unsigned_abs, neg_ℤ, arith, sym, ap, subst, refl}
 use Rattle.std.proofs.lemmas.Int.{ints}
 use Rattle.hpf_num.specs.declared.run.Run.{Run}
 use Rattle.hpf_num.specs.Run.{LiesWithin}
@@ -7,6 +7,7 @@ use Rattle.hpf_own.specs.declared.image.BaseDim.{BaseDim}
 use Rattle.hpf_own.specs.KeptLists.{no_run as no_bound}
 use Rattle.hpf_own.specs.Space.{LiesIn}
 use Rattle.hpf_own.specs.Mapping.{PlainMapping, IsMapping, AreInLimits, HasPositions, FollowsBelow}
+use Rattle.hpf_num.specs.Limits.{integer_limit}
 
 pub LiesIn-length : (bounds : List Run) (index : List ℤ) → LiesIn bounds index → length index ≡ length bounds
 LiesIn-length [] [] h = refl
@@ -20,10 +21,10 @@ LiesIn-at (run ∷ bounds) [] k r d h below = absurd h
 LiesIn-at (run ∷ bounds) (i ∷ index) zero r d h below = h.0
 LiesIn-at (run ∷ bounds) (i ∷ index) (suc k) r d h below = LiesIn-at bounds index k r d h.1 (omega arith)
 
-small_between : (low high i : ℤ) → neg_ℤ (pos (2 ^ 31 - 1)) ≤ℤ low → high ≤ℤ pos (2 ^ 31 - 1) → low ≤ℤ i → i ≤ℤ high → unsigned_abs i ≤ 2 ^ 31 - 1
+small_between : (low high i : ℤ) → neg_ℤ (pos integer_limit) ≤ℤ low → high ≤ℤ pos integer_limit → low ≤ℤ i → i ≤ℤ high → unsigned_abs i ≤ integer_limit
 small_between low high i a b c d = omega (arith, ints)
 
-pub subscripts_small : (bounds : List Run) (index : List ℤ) → AreInLimits bounds → LiesIn bounds index → All (λ i. unsigned_abs i ≤ 2 ^ 31 - 1) index
+pub subscripts_small : (bounds : List Run) (index : List ℤ) → AreInLimits bounds → LiesIn bounds index → All (λ i. unsigned_abs i ≤ integer_limit) index
 subscripts_small bounds index limits h =
     λ k d below.
     let within : k < length bounds = omega (arith, LiesIn-length bounds index h) in

@@ -1,5 +1,5 @@
 -- Which coordinates send.
-use Rattle.std.proofs.Common.{◌≡◌, ◌==◌, ℕ, zero, suc, ◌-◌, ◌^◌, ◌<◌, ◌≤◌, Bool, true, List, length, get_or, All, ℤ, pos, ◌+ℤ◌, ◌*ℤ◌, ◌≤ℤ◌, unsigned_abs, neg_ℤ, arith, sym, ap, ◌∙◌, subst, refl, inl, inr, eq-eqb}
+use Rattle.std.proofs.Common.{◌≡◌, ◌==◌, ℕ, zero, suc, ◌<◌, ◌≤◌, Bool, true, List, length, get_or, All, ℤ, pos, ◌+ℤ◌, ◌*ℤ◌, ◌≤ℤ◌, unsigned_abs, neg_ℤ, arith, sym, ap, ◌∙◌, subst, refl, inl, inr, eq-eqb}
 use Rattle.std.specs.List.{list_any}
 use Rattle.std.proofs.Math.IntN.{*ℤ_comm, suc_ℤ-*ℤ, +ℤ_one, suc_ℤ}
 use Rattle.std.proofs.lemmas.Int.{ints}
@@ -19,6 +19,7 @@ use Rattle.hpf_own.specs.Mapping.{CanLead}
 use Rattle.hpf_own.specs.Owners.{Leads, IsLeast}
 use Rattle.hpf_own.proofs.Order.{index_with, extent_is, integers_has}
 use Rattle.hpf_own.proofs.Linear.{IsLinear, linear}
+use Rattle.hpf_num.specs.Limits.{integer_limit}
 
 pub lies_low : (run : Run) → run.low ≤ℤ run.high → LiesWithin run run.low
 lies_low run h = record { least = omega (arith, ints); greatest = h }
@@ -85,7 +86,7 @@ leads_line axis bounds dim a b c h =
     list_any_at (λ u. owner_at axis u == c) (spread (a *ℤ run.low +ℤ b) a (extent run)) place.0 h.0 (omega (arith, within, length-map-range_with_len at 0 (extent run)))
     (eq-eqb _ _ (ap (owner_at axis) is ∙ h.2))
 
-small_low : (low high : ℤ) → neg_ℤ (pos (2 ^ 31 - 1)) ≤ℤ low → low ≤ℤ high → high ≤ℤ pos (2 ^ 31 - 1) → unsigned_abs low ≤ 2 ^ 31 - 1
+small_low : (low high : ℤ) → neg_ℤ (pos integer_limit) ≤ℤ low → low ≤ℤ high → high ≤ℤ pos integer_limit → unsigned_abs low ≤ integer_limit
 small_low low high a b c = omega (arith, ints)
 
 -- the first of them is within the range of its type

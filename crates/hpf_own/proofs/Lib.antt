@@ -15,6 +15,7 @@ pub mod Next
 pub mod Order
 pub mod Correspondence
 pub mod Leads
+pub mod Steady
 pub mod Sends
 pub mod Numbers
 pub mod Rows
@@ -26,3 +27,4 @@ pub mod Parts
 pub mod Standing
 pub mod Walking
 pub mod Taking
+pub mod Alike

@@ -11,6 +11,7 @@ use Rattle.std.specs.List.{list_any}
 use Rattle.std.proofs.lemmas.Bool.{ne_eqb, or_left, or_from}
 use Rattle.hpf_own.specs.Owners.{IsLeast}
 use Rattle.std.proofs.lemmas.Nat.{mul-le}
+use Rattle.hpf_num.specs.Limits.{integer_limit}
 
 -- what the code computes of `a * x + b`
 abbrev pub computed : ℤ → ℤ → ℤ → ℤ
@@ -27,18 +28,18 @@ fits_small a n h k = fits_signed_from_abs w64 a (omega arith)
 sum_fits : (a b : ℤ) → unsigned_abs a ≤ 2 ^ 62 - 1 → unsigned_abs b ≤ 2 ^ 62 → FitsSigned w64 (a +ℤ b)
 sum_fits a b h k = omega (arith, ints)
 
-pub linear : (a x b : ℤ) → unsigned_abs a ≤ 2 ^ 31 - 1 → unsigned_abs x ≤ 2 ^ 31 - 1 → unsigned_abs b ≤ 2 ^ 62 → IsLinear a x b
+pub linear : (a x b : ℤ) → unsigned_abs a ≤ integer_limit → unsigned_abs x ≤ integer_limit → unsigned_abs b ≤ 2 ^ 62 → IsLinear a x b
 linear a x b ha hx hb =
-    let fa : FitsSigned w64 a = fits_small a (2 ^ 31 - 1) ha (omega arith) in
-    let fx : FitsSigned w64 x = fits_small x (2 ^ 31 - 1) hx (omega arith) in
+    let fa : FitsSigned w64 a = fits_small a integer_limit ha (omega arith) in
+    let fx : FitsSigned w64 x = fits_small x integer_limit hx (omega arith) in
     let fb : FitsSigned w64 b = fits_small b (2 ^ 62) hb (omega arith) in
-    let small : unsigned_abs (a *ℤ x) ≤ 2 ^ 62 - 1 = rw (unsigned_abs-mul a x) (omega (arith, mul-le (unsigned_abs a) (unsigned_abs x) (2 ^ 31 - 1) (2 ^ 31 - 1) ha hx)) in
+    let small : unsigned_abs (a *ℤ x) ≤ 2 ^ 62 - 1 = rw (unsigned_abs-mul a x) (omega (arith, mul-le (unsigned_abs a) (unsigned_abs x) integer_limit integer_limit ha hx)) in
     let fm : FitsSigned w64 (a *ℤ x) = fits_small (a *ℤ x) (2 ^ 62 - 1) small (omega arith) in
     let is : computed a x b ≡ a *ℤ x +ℤ b = rw (to_z-of_z fa, to_z-of_z fx, to_z-of_z fb, to_z-of_z fm) refl in
     record { product = rw (to_z-of_z fa, to_z-of_z fx) fm; fits = rw is (sum_fits (a *ℤ x) b small hb); is = is }
 
 -- what is asked of an image along a dimension of the array
-pub asked : (image : Image) (index : List ℤ) (dim : ℕ) (a b : ℤ) → image ≡ Along dim a b → FollowsBelow (length index) image → HasSmallCoefficients image → All (λ i. unsigned_abs i ≤ 2 ^ 31 - 1) index → IsLinear a (subscript index dim) b
+pub asked : (image : Image) (index : List ℤ) (dim : ℕ) (a b : ℤ) → image ≡ Along dim a b → FollowsBelow (length index) image → HasSmallCoefficients image → All (λ i. unsigned_abs i ≤ integer_limit) index → IsLinear a (subscript index dim) b
 asked image index dim a b is f k s =
     let below : dim < length index = subst (FollowsBelow (length index)) is f in
     let small : HasSmallCoefficients (Along dim a b) = subst HasSmallCoefficients is k in
@@ -51,7 +52,7 @@ lies image axis index dim a b is h =
     along 0 (pos 0) (omega arith)
 
 -- what the code computes is the position
-pub position : (image : Image) (axis : Divided) (index : List ℤ) (dim : ℕ) (a b : ℤ) → image ≡ Along dim a b → FollowsBelow (length index) image → HasSmallCoefficients image → All (λ i. unsigned_abs i ≤ 2 ^ 31 - 1) index → to_z w64 (of_z w64 (computed a (subscript index dim) b)) ≡ a *ℤ subscript index dim +ℤ b
+pub position : (image : Image) (axis : Divided) (index : List ℤ) (dim : ℕ) (a b : ℤ) → image ≡ Along dim a b → FollowsBelow (length index) image → HasSmallCoefficients image → All (λ i. unsigned_abs i ≤ integer_limit) index → to_z w64 (of_z w64 (computed a (subscript index dim) b)) ≡ a *ℤ subscript index dim +ℤ b
 position image axis index dim a b is f k s =
     let l = asked image index dim a b is f k s in
     to_z-of_z l.fits ∙ l.is

@@ -1,5 +1,5 @@
 -- What a processor owns and holds is a box.
-use Rattle.std.proofs.Common.{◌≡◌, ℕ, suc, ◌+◌, ◌/◌, ◌%◌, ◌^◌, ◌<◌, ◌≤◌, Bool, true, false, ◌&&◌, cond, List, [], ◌∷◌, ◌++◌, length, map, filter, get_or, drop, take, All, Option, Some, None, ℤ, pos, ◌+ℤ◌, ◌*ℤ◌, refl, sym, ap, ◌∙◌, inl, inr, arith, subst, eq-eqb, Result, IfOk}
+use Rattle.std.proofs.Common.{◌≡◌, ℕ, suc, ◌+◌, ◌/◌, ◌%◌, ◌<◌, ◌≤◌, Bool, true, false, ◌&&◌, cond, List, [], ◌∷◌, ◌++◌, length, map, filter, get_or, drop, take, All, Option, Some, None, ℤ, pos, ◌+ℤ◌, ◌*ℤ◌, refl, sym, ap, ◌∙◌, inl, inr, arith, subst, eq-eqb, Result, IfOk}
 use Rattle.std.specs.List.{list_any, find}
 use Rattle.std.proofs.lemmas.Bool.{false≢true, cases_eq, ne_eqb}
 use Rattle.std.proofs.lemmas.List.{get_or-map, nil_from_length, length-drop, length-map, take_all}
@@ -26,6 +26,7 @@ use Rattle.hpf_own.proofs.Each.{owns_digits, owns_from}
 use Rattle.hpf_own.proofs.Indices.{LiesIn-length}
 use Rattle.hpf_own.proofs.Only.{same_test}
 use Rattle.hpf_own.proofs.Order.{indices_only, length-indices}
+use Rattle.hpf_own.specs.Limits.{element_limit}
 
 -- ---- one dimension of the arrangement after another
 passes_same : (ns : List ℕ) (f g : ℕ → ℕ → Bool) (k : ℕ) → ((e c : ℕ) → f e c ≡ g e c) → passes ns f k ≡ passes ns g k
@@ -190,10 +191,10 @@ pub sides_rank : (f : ℕ → ℤ → Bool) (bounds : List Run) (sides : List (L
 sides_rank f bounds sides is =
     ap (λ (xs : List (List ℤ)). length xs) is ∙ length-passing f (map integers bounds) ∙ length-map bounds integers
 
-pub sides_few : (f : ℕ → ℤ → Bool) (m : PlainMapping) (sides : List (List ℤ)) → IsMapping m → sides ≡ passing f (map integers m.bounds) → length (choices sides) ≤ 2 ^ 24
+pub sides_few : (f : ℕ → ℤ → Bool) (m : PlainMapping) (sides : List (List ℤ)) → IsMapping m → sides ≡ passing f (map integers m.bounds) → length (choices sides) ≤ element_limit
 sides_few f m sides is all =
     let e = ap (λ (xs : List (List ℤ)). length (choices xs)) all in
-    let few = box_fewer f m.bounds (2 ^ 24) is.limits.elements in
+    let few = box_fewer f m.bounds element_limit is.limits.elements in
     omega arith
 
 -- what is made of them

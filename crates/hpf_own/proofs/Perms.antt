@@ -9,6 +9,7 @@ use Rattle.std.proofs.lemmas.List.Elements.{contains_decides, Decides-contains}
 use Rattle.std.proofs.lemmas.List.Sorted.{IsPermutation-refl, IsPermutation-cons, IsPermutation-remove, IsPermutation-sym, IsPermutation-trans, length_permutation, Contains-permutation}
 use Rattle.hpf_own.specs.Lists.{IsPerm}
 use Rattle.std.proofs.lemmas.List.FromFn.{length-range_with_len, get_or-range_with_len}
+use Rattle.hpf_own.specs.Limits.{dimension_limit}
 
 empty_is : (ys : List ℕ) → length ys ≡ 0 → ys ≡ []
 empty_is [] e = refl
@@ -42,11 +43,11 @@ front_of a n zero h = refl
 front_of a zero (suc k) h = absurd (omega arith)
 front_of a (suc n) (suc k) h = ap (λ (xs : List ℕ). a ∷ xs) (front_of (a + 1) n k (omega arith))
 
-pub first_of_seven : (n : ℕ) → n ≤ 7 → take n (1 ∷ 2 ∷ 3 ∷ 4 ∷ 5 ∷ 6 ∷ 7 ∷ []) ≡ range_with_len 1 n
+pub first_of_seven : (n : ℕ) → n ≤ dimension_limit → take n (1 ∷ 2 ∷ 3 ∷ 4 ∷ 5 ∷ 6 ∷ 7 ∷ []) ≡ range_with_len 1 n
 first_of_seven n h = front_of 1 7 n h
 
 -- the numbers from 1 on are a permutation of themselves
-pub ordered_is : (n : ℕ) → 1 ≤ n → n ≤ 7 → IsPerm (range_with_len 1 n)
+pub ordered_is : (n : ℕ) → 1 ≤ n → n ≤ dimension_limit → IsPerm (range_with_len 1 n)
 ordered_is n least greatest =
     record {
       short = record { some = omega (arith, length-range_with_len 1 n); few = omega (arith, length-range_with_len 1 n) };

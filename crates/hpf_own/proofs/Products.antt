@@ -4,13 +4,14 @@ use Rattle.std.proofs.Math.Nat.{mul-le-mul}
 use Rattle.std.proofs.lemmas.List.{take_more}
 use Rattle.std.proofs.lemmas.List.Elements.{All-head, All-tail, All-more, All-take}
 use Rattle.hpf_own.specs.Space.{product}
+use Rattle.hpf_dist.specs.Limits.{processor_limit}
 
 -- the product of so many sizes, none of which is 0
 pub record IsCounted (sizes : List ℕ) (i count : ℕ) : Type 0 where
   pub is : count ≡ product (take i sizes)
   pub some : All (λ size. 1 ≤ size) (take i sizes)
   pub least : 1 ≤ count
-  pub few : count ≤ 64
+  pub few : count ≤ processor_limit
 
 pub product-append : (ns ms : List ℕ) → product (ns ++ ms) ≡ product ns * product ms
 product-append [] ms = omega arith
@@ -46,7 +47,7 @@ some_factor : (count size : ℕ) → (count * size ≡ 0 → ⊥) → 1 ≤ size
 some_factor count zero h = absurd (h (omega arith))
 some_factor count (suc n) h = omega arith
 
-pub count_more : (sizes : List ℕ) (i count size : ℕ) → i < length sizes → IsCounted sizes i count → size ≡ get_or sizes i 0 → (count * size ≡ 0 → ⊥) → count * size ≤ 64 → IsCounted sizes (i + 1) (count * size)
+pub count_more : (sizes : List ℕ) (i count size : ℕ) → i < length sizes → IsCounted sizes i count → size ≡ get_or sizes i 0 → (count * size ≡ 0 → ⊥) → count * size ≤ processor_limit → IsCounted sizes (i + 1) (count * size)
 count_more sizes i count size lt h e some few =
     let one = some_factor count size some in
     record {
@@ -57,7 +58,7 @@ count_more sizes i count size lt h e some few =
     }
 
 -- so many processors are too many, or none
-pub count_bounds : (sizes : List ℕ) (i count size : ℕ) → i < length sizes → IsCounted sizes i count → size ≡ get_or sizes i 0 → All (λ n. 1 ≤ n) sizes → product sizes ≤ 64 → (1 ≤ count * size) × (count * size ≤ 64)
+pub count_bounds : (sizes : List ℕ) (i count size : ℕ) → i < length sizes → IsCounted sizes i count → size ≡ get_or sizes i 0 → All (λ n. 1 ≤ n) sizes → product sizes ≤ processor_limit → (1 ≤ count * size) × (count * size ≤ processor_limit)
 count_bounds sizes i count size lt h e all few =
     let is : count * size ≡ product (take (i + 1) sizes) = rw (e, h.is) (sym (product_more sizes i lt)) in
     let least = product-some (take (i + 1) sizes) (All-take (λ n. 1 ≤ n) (i + 1) sizes all) in

@@ -17,6 +17,7 @@ use Rattle.hpf_own.specs.OwnerSet.{bit_of, IsSetOf, IsRepeated}
 use Rattle.hpf_own.proofs.Digits.{passes, passes-push}
 use Rattle.hpf_own.proofs.Each.{owns-passes}
 use Rattle.hpf_own.proofs.Products.{IsCounted, count_more, count_bounds}
+use Rattle.hpf_dist.specs.Limits.{processor_limit}
 
 -- the sets of the numbers that pass in the first dimensions
 pub record IsSoFar (dims : List BaseDim) (index : List ℤ) (sizes : List ℕ) (e stride set : ℕ) : Type 0 where
@@ -49,7 +50,7 @@ powers {n} {i} {j} h k =
     ]
 
 -- the next coordinate adds the set, so many strides further
-pub repeat_more : (f : ℕ → Bool) (set stride c all : ℕ) → 1 ≤ stride → (c + 1) * stride ≤ 64 → set < 2 ^ stride → IsRepeated f set stride c all → f c ≡ true → IsRepeated f set stride (c + 1) (bit_or all (set * 2 ^ (c * stride) % 2 ^ 64))
+pub repeat_more : (f : ℕ → Bool) (set stride c all : ℕ) → 1 ≤ stride → (c + 1) * stride ≤ processor_limit → set < 2 ^ stride → IsRepeated f set stride c all → f c ≡ true → IsRepeated f set stride (c + 1) (bit_or all (set * 2 ^ (c * stride) % 2 ^ 64))
 repeat_more f set stride c all some few small h holds =
     let n = c * stride in
     let whole : set * 2 ^ n % 2 ^ 64 ≡ set * 2 ^ n = shl_whole set stride n 64 small (omega arith) in

@@ -1,5 +1,5 @@
 -- Parts that are made of lists, one for each dimension.
-use Rattle.std.proofs.Common.{◌≡◌, ℕ, zero, suc, ◌+◌, ◌-◌, ◌*◌, ◌/◌, ◌%◌, ◌^◌, ◌<◌, ◌≤◌, List, [], ◌∷◌, ◌++◌, length, get_or, drop, take, All, Contains, inl, inr, refl, sym, ap, ◌∙◌, arith, subst, mul_comm, slice_get, Some, replicate}
+use Rattle.std.proofs.Common.{◌≡◌, ℕ, zero, suc, ◌+◌, ◌-◌, ◌*◌, ◌/◌, ◌%◌, ◌<◌, ◌≤◌, List, [], ◌∷◌, ◌++◌, length, get_or, drop, take, All, Contains, inl, inr, refl, sym, ap, ◌∙◌, arith, subst, mul_comm, slice_get, Some, replicate}
 use Rattle.std.proofs.lemmas.Nat.{mul-add-lt}
 use Rattle.std.proofs.Math.Nat.{mul-le-mul_left}
 use Rattle.std.proofs.lemmas.List.{drop_more, drop_all, nil_from_length, append_assoc, get_or_default}
@@ -10,6 +10,7 @@ use Rattle.hpf_own.specs.Space.{choices}
 use Rattle.hpf_own.specs.Held.{AreAllOrNone}
 use Rattle.hpf_own.proofs.Choices.{length-choices, get_or-choices}
 use Rattle.hpf_own.proofs.Order.{Chooses, choices_only, split}
+use Rattle.hpf_own.specs.Limits.{element_limit}
 
 pub length_more : {A : Type 0} (items : List A) (rest : List (List A)) → length (choices (items ∷ rest)) ≡ length items * length (choices rest)
 length_more items rest = length-choices (items ∷ rest) ∙ ap (λ (n : ℕ). length items * n) (sym (length-choices rest))
@@ -43,11 +44,11 @@ none_fewer {A} (items ∷ next ∷ rest) (suc d) n none few least =
     let nothing : length (choices (next ∷ rest)) ≡ 0 = length_more next rest ∙ rw empty (omega arith) in
     none_fewer (next ∷ rest) d n tail (omega arith) least
 
-pub fewer : {A : Type 0} (lists : List (List A)) (d : ℕ) → AreAllOrNone lists → length (choices lists) ≤ 2 ^ 24 → length (choices (drop d lists)) ≤ 2 ^ 24
+pub fewer : {A : Type 0} (lists : List (List A)) (d : ℕ) → AreAllOrNone lists → length (choices lists) ≤ element_limit → length (choices (drop d lists)) ≤ element_limit
 fewer lists d all few =
     elim all [
-      | inl some ↦ some_fewer lists d (2 ^ 24) some few (omega arith)
-      | inr none ↦ none_fewer lists d (2 ^ 24) none few (omega arith)
+      | inl some ↦ some_fewer lists d element_limit some few (omega arith)
+      | inr none ↦ none_fewer lists d element_limit none few (omega arith)
     ]
 
 -- the place of a choice, one list more in front
@@ -137,7 +138,7 @@ placed_before {A} lists d place n j side x chosen b h size at =
     let whole = placed_more lists (d - 1) place j x chosen b.within more below there in
     subst (λ (m : ℕ). IsPlaced lists (d - 1) (place * m + j) (x ∷ chosen)) (ap (λ (xs : List A). length xs) b.is ∙ sym size) whole
 
-pub placed_fits : {A : Type 0} (lists : List (List A)) (d place : ℕ) (chosen : List A) → AreAllOrNone lists → length (choices lists) ≤ 2 ^ 24 → IsPlaced lists d place chosen → place < 2 ^ 24
+pub placed_fits : {A : Type 0} (lists : List (List A)) (d place : ℕ) (chosen : List A) → AreAllOrNone lists → length (choices lists) ≤ element_limit → IsPlaced lists d place chosen → place < element_limit
 placed_fits lists d place chosen all few h = let f = fewer lists d all few in let b = h.below in omega arith
 
 -- the choice at a place is the whole index
@@ -151,7 +152,7 @@ not_chosen {A} lists d side index x b is out h =
     let here = chosen_at lists index (d - 1) x chosen b.within in
     out (subst (λ (xs : List A). Contains xs x) b.is (subst (Contains (get_or lists (d - 1) [])) (sym is) here))
 
-pub product_fits : {A : Type 0} (lists : List (List A)) (d place n : ℕ) (side chosen : List A) → AreAllOrNone lists → length (choices lists) ≤ 2 ^ 24 → IsBefore lists d side → IsPlaced lists d place chosen → n ≡ length side → place * n ≤ 2 ^ 24
+pub product_fits : {A : Type 0} (lists : List (List A)) (d place n : ℕ) (side chosen : List A) → AreAllOrNone lists → length (choices lists) ≤ element_limit → IsBefore lists d side → IsPlaced lists d place chosen → n ≡ length side → place * n ≤ element_limit
 product_fits lists d place n side chosen all few b h size =
     let e = counted lists d (length (choices (drop d lists))) n side b refl size in
     let f = fewer lists (d - 1) all few in

@@ -1,5 +1,5 @@
 -- From one index to the next in element order.
-use Rattle.std.proofs.Common.{◌≡◌, ℕ, zero, suc, ◌+◌, ◌*◌, ◌/◌, ◌%◌, ◌<◌, ◌≤◌, Bool, true, false, List, [], ◌∷◌, ◌++◌, ◌⊎◌, inl, inr, length, map, get_or, set, take, drop, All, ℤ, pos, ◌+ℤ◌, ◌-ℤ◌, ◌≤ℤ◌, ◌<ℤ◌, slice_get, Some, arith, mul_comm, sym, ap, ◌∙◌, subst, refl}
+use Rattle.std.proofs.Common.{◌≡◌, ℕ, suc, ◌+◌, ◌*◌, ◌/◌, ◌%◌, ◌<◌, ◌≤◌, Bool, true, false, List, [], ◌∷◌, ◌++◌, ◌⊎◌, inl, inr, length, map, get_or, set, take, drop, All, ℤ, pos, ◌+ℤ◌, ◌-ℤ◌, ◌≤ℤ◌, ◌<ℤ◌, Some, arith, mul_comm, sym, ap, ◌∙◌, subst, refl}
 use Rattle.std.proofs.lemmas.Int.{ints}
 use Rattle.std.proofs.lemmas.Nat.{mul-add-lt}
 use Rattle.std.proofs.lemmas.Bool.{cases_lt}
@@ -8,8 +8,8 @@ use Rattle.std.proofs.lemmas.List.{append_assoc, append-nil, drop_all, drop_more
 use Rattle.std.proofs.lemmas.List.Elements.{All-head, All-tail}
 use Rattle.std.proofs.lemmas.List.FromFn.{get_or-map-range_with_len, length-map-range_with_len}
 use Rattle.hpf_num.specs.declared.run.Run.{Run}
-use Rattle.hpf_num.specs.Run.{integers, extent, LiesWithin}
-use Rattle.hpf_own.specs.Space.{choices, indices, LiesIn}
+use Rattle.hpf_num.specs.Run.{integers, extent}
+use Rattle.hpf_own.specs.Space.{indices, LiesIn}
 use Rattle.hpf_own.specs.Walk.{IsIndexAt}
 use Rattle.hpf_own.proofs.Choices.{get_or-choices}
 use Rattle.hpf_own.proofs.Order.{split, at_most, extent_is}

@@ -1,11 +1,12 @@
 -- What a processor owns and holds of a mapped array.
-use Rattle.std.specs.Prelude.{ℕ, ◌≡◌, ◌^◌, ◌≤◌, Bool, true, false, ◌&&◌, ◌⊎◌, List, [], ◌∷◌, length, filter, All, ℤ}
+use Rattle.std.specs.Prelude.{ℕ, ◌≡◌, ◌≤◌, Bool, true, false, ◌&&◌, ◌⊎◌, List, [], ◌∷◌, length, filter, All, ℤ}
 use Rattle.std.specs.List.{list_any}
 use Rattle.hpf_num.specs.Runs.{AreMembers, is_near}
 use Rattle.hpf_own.specs.declared.widths.Width.{Width}
 use Rattle.hpf_own.specs.Space.{choices, indices}
 use Rattle.hpf_own.specs.Mapping.{PlainMapping}
 use Rattle.hpf_own.specs.Owners.{owns}
+use Rattle.hpf_own.specs.Limits.{element_limit, dimension_limit}
 
 -- whether an index lies within the widths of a shadow around another, in every dimension: corners count
 abbrev pub is_around : List Width → List ℤ → List ℤ → Bool
@@ -47,7 +48,7 @@ pub record IsMadeOf (part : Part) (lists : List (List ℤ)) : Type 0 where
 -- lists of which a part may be made (this project's limits)
 pub record AreSides (lists : List (List ℤ)) : Type 0 where
   pub some : 1 ≤ length lists
-  pub short : length lists ≤ 7
+  pub short : length lists ≤ dimension_limit
   pub members : All AreMembers lists
   pub all_or_none : AreAllOrNone lists
-  pub few : length (choices lists) ≤ 2 ^ 24
+  pub few : length (choices lists) ≤ element_limit

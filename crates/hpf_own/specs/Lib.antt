@@ -1,3 +1,4 @@
+pub mod Limits
 pub mod Kept
 pub mod Space
 pub mod Lists
@@ -6,9 +7,11 @@ pub mod Image
 pub mod Mapping
 pub mod Owners
 pub mod OwnerSet
+pub mod Common
 pub mod Held
 pub mod Side
 pub mod Walk
 pub mod Places
 pub mod Correspondence
 pub mod Members
+pub mod Alike

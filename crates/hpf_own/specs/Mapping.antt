@@ -1,5 +1,5 @@
 -- A mapping as a plain value, and what is asked of it.
-use Rattle.std.specs.Prelude.{ℕ, ◌≡◌, ◌-◌, ◌^◌, ◌<◌, ◌≤◌, Bool, false, ◌==◌, List, length, filter, slice_index, All, ℤ, pos, neg_ℤ, ◌≤ℤ◌, unsigned_abs}
+use Rattle.std.specs.Prelude.{ℕ, ◌≡◌, ◌^◌, ◌<◌, ◌≤◌, Bool, false, ◌==◌, List, length, filter, slice_index, All, ℤ, pos, neg_ℤ, ◌≤ℤ◌, unsigned_abs}
 use Rattle.hpf_num.specs.declared.run.Run.{Run}
 use Rattle.hpf_num.specs.Run.{extent}
 use Rattle.hpf_dist.specs.Axis.{Divided}
@@ -14,6 +14,8 @@ use Rattle.hpf_own.specs.declared.widths.Width.{Width}
 use Rattle.hpf_own.specs.Space.{LiesIn, size_of}
 use Rattle.hpf_own.specs.Lists.{IsBounds, IsSizes}
 use Rattle.hpf_own.specs.Image.{positions}
+use Rattle.hpf_num.specs.Limits.{integer_limit}
+use Rattle.hpf_own.specs.Limits.{element_limit}
 
 -- the bounds of an array, its base dimension by dimension, the sizes of the arrangement, and the widths of its shadow
 pub record PlainMapping : Type 0 where
@@ -24,15 +26,15 @@ pub record PlainMapping : Type 0 where
 
 -- bounds within the limits that this project sets
 pub record AreInLimits (bounds : List Run) : Type 0 where
-  pub least : All (λ run. neg_ℤ (pos (2 ^ 31 - 1)) ≤ℤ run.low) bounds
-  pub greatest : All (λ run. run.high ≤ℤ pos (2 ^ 31 - 1)) bounds
-  pub extents : All (λ run. extent run ≤ 2 ^ 24) bounds
-  pub elements : size_of bounds ≤ 2 ^ 24
+  pub least : All (λ run. neg_ℤ (pos integer_limit) ≤ℤ run.low) bounds
+  pub greatest : All (λ run. run.high ≤ℤ pos integer_limit) bounds
+  pub extents : All (λ run. extent run ≤ element_limit) bounds
+  pub elements : size_of bounds ≤ element_limit
 
 -- neither width of a shadow is above the limit that this project sets
 pub record IsSmallWidth (width : Width) : Type 0 where
-  pub low : width.low ≤ 2 ^ 31 - 1
-  pub high : width.high ≤ 2 ^ 31 - 1
+  pub low : width.low ≤ integer_limit
+  pub high : width.high ≤ integer_limit
 
 -- a dimension of the base that follows a dimension of the array follows one of so many
 abbrev pub FollowsBelow : ℕ → Image → Type 0
@@ -72,7 +74,7 @@ StaysWithin bounds image cut = (index : List ℤ) → LiesIn bounds index → St
 
 -- the coefficients of a linear image are within the limits that this project sets
 abbrev pub HasSmallCoefficients : Image → Type 0
-HasSmallCoefficients (Along dim a b) = (unsigned_abs a ≤ 2 ^ 31 - 1) × (unsigned_abs b ≤ 2 ^ 62)
+HasSmallCoefficients (Along dim a b) = (unsigned_abs a ≤ integer_limit) × (unsigned_abs b ≤ 2 ^ 62)
 HasSmallCoefficients (Fixed n) = Unit {0}
 HasSmallCoefficients (Spread first step count) = Unit {0}
 
@@ -86,7 +88,7 @@ HasSome (Spread first step count) = 1 ≤ count
 pub record HasPositions (d : BaseDim) (index : List ℤ) : Type 0 where
   pub followed : FollowsBelow (length index) d.image
   pub coefficients : HasSmallCoefficients d.image
-  pub subscripts : All (λ i. unsigned_abs i ≤ 2 ^ 31 - 1) index
+  pub subscripts : All (λ i. unsigned_abs i ≤ integer_limit) index
   pub within : StayIn d.cut (positions d.image index)
 
 -- bounds of an array of which a divided dimension may be asked which coordinates send

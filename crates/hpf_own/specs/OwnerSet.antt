@@ -1,6 +1,7 @@
 -- Sets of processors, as the bits of a number.
 use Rattle.std.specs.Prelude.{ℕ, ◌≡◌, ◌*◌, ◌/◌, ◌%◌, ◌^◌, ◌<◌, ◌≤◌, Bool, true, false, ◌&&◌, nat_lt, if◌then◌else◌, MatchOption, Option}
 use Rattle.std.specs.Int.{bit_at}
+use Rattle.hpf_dist.specs.Limits.{processor_limit}
 
 -- the bit of a number that is in a set, or isn't
 abbrev pub bit_of : Bool → ℕ
@@ -21,4 +22,4 @@ pub record IsRepeated (test : ℕ → Bool) (set stride size repeated : ℕ) : T
 abbrev pub IsFirstFrom : ℕ → ℕ → Option ℕ → Type 0
 IsFirstFrom set from first =
     MatchOption first ((k : ℕ) → from ≤ k → bit_at set k ≡ 0)
-    (λ p. (from ≤ p) × (p < 64) × (bit_at set p ≡ 1) × ((k : ℕ) → from ≤ k → k < p → bit_at set k ≡ 0))
+    (λ p. (from ≤ p) × (p < processor_limit) × (bit_at set p ≡ 1) × ((k : ℕ) → from ≤ k → k < p → bit_at set k ≡ 0))

@@ -5,6 +5,7 @@ ghost use Rattle.hpf_own.specs.Lists.{IsBounds};
 ghost use Rattle.hpf_own.specs.Space.{LiesIn};
 ghost use Rattle.hpf_own.specs.Walk.{IsIndexAt};
 
+use crate::limits::DIMENSIONS;
 use hpf_num::Run;
 use std::marker::Model;
 
@@ -12,7 +13,7 @@ use std::marker::Model;
 /// most seven.
 #[derive(Clone, Copy, PartialEq, Eq)]
 pub struct Bounds {
-    runs: [Run; 7],
+    runs: [Run; DIMENSIONS],
     rank: u8,
 }
 
@@ -40,10 +41,10 @@ impl Bounds {
         ensures some { IsSome result ↔ IsBounds runs.now }
         ensures same { IfSome result (λ bounds. bounds ≡ runs.now) }
     {
-        if runs.is_empty() || runs.len() > 7 || !are_ordered(runs) {
+        if runs.is_empty() || runs.len() > DIMENSIONS || !are_ordered(runs) {
             return None;
         }
-        let mut kept = [Run { low: 0, high: 0 }; 7];
+        let mut kept = [Run { low: 0, high: 0 }; DIMENSIONS];
         for (d, run) in runs.iter().enumerate() {
             kept[d] = *run;
         }

@@ -6,6 +6,7 @@ ghost use Rattle.hpf_num.specs.Runs.{AreMembers};
 ghost use Rattle.hpf_own.specs.Space.{choices, StandOnce};
 ghost use Rattle.hpf_own.specs.Image.{subscript};
 ghost use Rattle.hpf_own.specs.Held.{Part, IsMadeOf, AreSides};
+ghost use Rattle.hpf_own.specs.Limits.{element_limit, dimension_limit};
 
 use hpf_num::Runs;
 use std::alloc::{AllocError, Global};
@@ -36,8 +37,8 @@ impl Held {
     pub fn rank(&self) -> u32
         ensures rank { result ≡ self.now.rank }
         ensures some { 1 ≤ result }
-        ensures short { result ≤ 7 }
-        ensures few { length self.now.indices ≤ 2 ^ 24 }
+        ensures short { result ≤ dimension_limit }
+        ensures few { length self.now.indices ≤ element_limit }
         ensures once { StandOnce self.now.indices }
     {
         self.sides.len() as u32
@@ -100,8 +101,8 @@ impl Held {
     /// What is made of these lists of subscripts, one for each dimension.
     pub(crate) fn of(alloc: Global, sides: Vec<Runs>) -> Result<Held, AllocError>
         requires some { 1 ≤ length sides.items }
-        requires short { length sides.items ≤ 7 }
-        requires few { length (choices sides.items) ≤ 2 ^ 24 }
+        requires short { length sides.items ≤ dimension_limit }
+        requires few { length (choices sides.items) ≤ element_limit }
         ensures { IfOk result (λ part. part
             ≡ record { rank = length sides.items; indices = choices sides.items }) }
     {

@@ -1,11 +1,14 @@
 //! One dimension of a base.
 
-ghost use Rattle.std.specs.Prelude.{◌≡◌, ◌==◌, ◌<◌, ◌≤◌, ◌-◌, ◌^◌, length, All, unsigned_abs, pos, neg_ℤ, ◌≤ℤ◌, ◌+◌, ◌↔◌, IsTrue};
+ghost use Rattle.std.specs.Prelude.{◌≡◌, ◌==◌, ◌<◌, ◌≤◌, ◌-◌, ◌^◌, length, All, unsigned_abs, pos, neg_ℤ, ◌≤ℤ◌, ◌+◌, ◌↔◌, IsTrue, IfSome};
 ghost use Rattle.std.specs.List.{list_any};
 ghost use Rattle.hpf_dist.specs.Spread.{IsPosition, owner_at, spread};
 ghost use Rattle.hpf_own.specs.Image.{positions};
 ghost use Rattle.hpf_own.specs.Mapping.{FollowsBelow, HasSmallCoefficients, HasSome, HasOwners, divides, HasPositions, CanLead, CanLeadAt};
 ghost use Rattle.hpf_own.specs.Owners.{holds_at, IsLeast, IsCoordinate, Leads, LeadsAt};
+ghost use Rattle.hpf_num.specs.Limits.{integer_limit};
+ghost use Rattle.hpf_own.specs.Common.{is_steady, procs_of};
+ghost use Rattle.hpf_dist.specs.Limits.{processor_limit};
 
 use hpf_dist::Axis;
 use hpf_num::Run;
@@ -22,11 +25,21 @@ pub enum Image {
 }
 
 impl Image {
+    /// Whether all elements have the same positions.
+    pub(crate) fn is_steady(&self) -> bool
+        ensures { result ≡ is_steady self.now }
+    {
+        match self {
+            Image::Along { .. } => false,
+            Image::Fixed(_) | Image::Spread { .. } => true,
+        }
+    }
+
     /// Whether coordinate `c` of a divided dimension owns a position of the element.
     fn is_at(&self, axis: &Axis, c: u32, index: &[i64]) -> bool
         requires followed { FollowsBelow (length index.now) self.now }
         requires coefficients { HasSmallCoefficients self.now }
-        requires subscripts { All (λ i. unsigned_abs i ≤ 2 ^ 31 - 1) index.now }
+        requires subscripts { All (λ i. unsigned_abs i ≤ integer_limit) index.now }
         requires within { All (IsPosition axis.now) (positions self.now index.now) }
         ensures { result ≡ list_any (λ u. owner_at axis.now u == c) (positions self.now index.now) }
     {
@@ -41,7 +54,7 @@ impl Image {
     fn least(&self, axis: &Axis, index: &[i64]) -> u32
         requires followed { FollowsBelow (length index.now) self.now }
         requires coefficients { HasSmallCoefficients self.now }
-        requires subscripts { All (λ i. unsigned_abs i ≤ 2 ^ 31 - 1) index.now }
+        requires subscripts { All (λ i. unsigned_abs i ≤ integer_limit) index.now }
         requires within { All (IsPosition axis.now) (positions self.now index.now) }
         requires some { HasSome self.now }
         ensures least { IsLeast (λ c. list_any (λ u. owner_at axis.now u == c) (positions self.now index.now)) result }
@@ -106,7 +119,9 @@ pub struct BaseDim {
 impl BaseDim {
     /// Over how many processors it is divided, if it is.
     pub(crate) fn procs(&self) -> Option<u32>
-        ensures { HasOwners self.now.cut }
+        ensures procs { result ≡ procs_of self.now.cut }
+        ensures few { IfSome result (λ procs. procs ≤ processor_limit) }
+        ensures owners { HasOwners self.now.cut }
     {
         match &self.cut {
             Cut::Whole => None,

@@ -5,7 +5,8 @@ ghost use Rattle.hpf_num.specs.declared.run.Run.{Run};
 ghost use Rattle.hpf_num.specs.Run.{extent};
 ghost use Rattle.hpf_own.specs.Space.{indices, LiesIn, AreCoordinates, product, size_of};
 ghost use Rattle.hpf_own.specs.Mapping.{PlainMapping, IsMapping};
-ghost use Rattle.hpf_own.specs.Owners.{coordinates, owns, sender, sends};
+ghost use Rattle.hpf_own.specs.Alike.{AreAlike};
+ghost use Rattle.hpf_own.specs.Owners.{coordinates, owners, owns, sender, sends};
 ghost use Rattle.hpf_own.specs.Held.{Part, IsMadeOf, is_held, owned_part, held_part};
 ghost use Rattle.hpf_own.specs.Places.{AreRanks, place_of, ranks_in};
 ghost use Rattle.hpf_own.specs.KeptLists.{no_width};
@@ -122,3 +123,15 @@ pub fn correspondence()
     ensures one_received { (from to : List Run) (perm : List ℕ) (j i k : List ℤ)
         → Corresponds from to perm j i → Corresponds from to perm j k → i ≡ k }
 {}
+
+/// Mappings that nobody can tell apart have the same parts, and each element has the same owners and sender.
+pub fn alike()
+    ensures owned { (m w : PlainMapping) (p : ℕ) → AreAlike m w → p < product m.procs → owned_part m p ≡ owned_part w p }
+    ensures held { (m w : PlainMapping) (p : ℕ) → AreAlike m w → p < product m.procs → held_part m p ≡ held_part w p }
+    ensures owners { (m w : PlainMapping) (index : List ℤ) → AreAlike m w → LiesIn m.bounds index
+        → owners m index ≡ owners w index }
+    ensures sender { (m w : PlainMapping) (index : List ℤ) → AreAlike m w → LiesIn m.bounds index
+        → sender m index ≡ sender w index }
+{
+    element_order();
+}

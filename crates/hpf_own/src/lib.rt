@@ -7,9 +7,11 @@
 
 mod base_dims;
 mod bounds;
+mod common;
 mod held;
 mod image;
 pub mod laws;
+mod limits;
 mod mapping;
 mod owner_set;
 mod perm;

@@ -8,10 +8,13 @@ ghost use Rattle.hpf_own.specs.Lists.{IsBounds, IsSizes};
 ghost use Rattle.hpf_own.specs.Mapping.{IsMapping, AreInLimits, IsSmallWidth, IsOnePosition, AreDims, divides};
 ghost use Rattle.hpf_own.specs.Owners.{owns, owners, sender, sends, holds, IsLeast, LeadsOf, IsWhole};
 ghost use Rattle.hpf_own.specs.OwnerSet.{IsSetOf, IsRepeated};
+ghost use Rattle.hpf_dist.specs.Limits.{processor_limit};
 
 use crate::base_dims::BaseDims;
 use crate::bounds::Bounds;
+use crate::common::{Common, common_over};
 use crate::image::{BaseDim, Cut, Image};
+use crate::limits::DIMENSIONS;
 use crate::owner_set::OwnerSet;
 use crate::procs::Procs;
 use crate::sizes::Sizes;
@@ -28,16 +31,19 @@ pub struct Mapping {
     dims: BaseDims,
     procs: Sizes,
     shadow: Widths,
+    // the coordinates at which all elements lie, for each dimension of the arrangement that has such
+    common: [Option<Common>; DIMENSIONS],
 }
 
 impl Model for Mapping {
-    ghost use Rattle.hpf_own.specs.Mapping.{PlainMapping, IsMapping};
+    ghost use Rattle.hpf_own.specs.Mapping.{PlainMapping};
+    ghost use Rattle.hpf_own.specs.Common.{IsKeptMapping};
 
     ghost Value = { PlainMapping };
 
     ghost view = { λ m. record { bounds = m.bounds; dims = m.dims; procs = m.procs; shadow = m.shadow } };
 
-    ghost invariant = { λ m. IsMapping (record { bounds = m.bounds; dims = m.dims; procs = m.procs; shadow = m.shadow }) };
+    ghost invariant = { λ m. IsKeptMapping (record { bounds = m.bounds; dims = m.dims; procs = m.procs; shadow = m.shadow }) m.common };
 }
 
 impl Mapping {
@@ -52,13 +58,16 @@ impl Mapping {
     {
         // (bounds, dimensions and sizes are well formed, as every such list is)
         let _ = bounds.as_slice();
-        let _ = dims.as_slice();
-        let _ = procs.as_slice();
+        let mut common = [None; DIMENSIONS];
+        for e in 0..procs.as_slice().len() {
+            common[e] = common_over(dims.as_slice(), e as u32);
+        }
         Mapping {
             bounds,
             dims,
             procs,
             shadow,
+            common,
         }
     }
 
@@ -165,7 +174,7 @@ impl Mapping {
     pub fn owner_set(&self, index: &[i64]) -> OwnerSet
         requires { LiesIn self.now.bounds index.now }
         ensures owners { result ≡ owners self.now index.now }
-        ensures few { length result ≤ 64 }
+        ensures few { length result ≤ processor_limit }
     {
         OwnerSet::new(self.owner_bits(index))
     }
@@ -174,7 +183,7 @@ impl Mapping {
     fn owner_bits(&self, index: &[i64]) -> u64
         requires { LiesIn self.now.bounds index.now }
         ensures owners { IsSetOf (λ p. owns self.now p index.now) (product self.now.procs) result }
-        ensures few { product self.now.procs ≤ 64 }
+        ensures few { product self.now.procs ≤ processor_limit }
     {
         let _ = &self.bounds;
         let mut set = 1;
@@ -189,9 +198,11 @@ impl Mapping {
     /// A set of processors below a stride, repeated for each coordinate in dimension `e` of the arrangement that owns a
     /// position of the element.
     fn repeated(&self, e: u32, size: u32, set: u64, stride: u32, index: &[i64]) -> u64
+        requires dimension { e < length self.now.procs }
+        requires size { size ≡ slice_index self.now.procs e }
         requires index { LiesIn self.now.bounds index.now }
         requires some { 1 ≤ stride }
-        requires few { stride * size ≤ 64 }
+        requires few { stride * size ≤ processor_limit }
         requires below { set < 2 ^ stride }
         ensures { IsRepeated (holds self.now.dims index.now e) set stride size result }
     {
@@ -212,6 +223,9 @@ impl Mapping {
         ensures below { result < slice_index self.now.procs e }
     {
         let _ = &self.bounds;
+        if let Some(common) = self.common[e as usize] {
+            return common.least;
+        }
         for dim in self.dims.as_slice() {
             if dim.is_over(e) {
                 return dim.least(index);
@@ -222,10 +236,15 @@ impl Mapping {
 
     /// Whether coordinate `c` in dimension `e` of the arrangement owns a position of the element.
     fn holds(&self, e: u32, c: u32, index: &[i64]) -> bool
+        requires dimension { e < length self.now.procs }
+        requires coordinate { c < slice_index self.now.procs e }
         requires index { LiesIn self.now.bounds index.now }
         ensures { result ≡ holds self.now.dims index.now e c }
     {
         let _ = &self.bounds;
+        if let Some(common) = self.common[e as usize] {
+            return common.has(c);
+        }
         for dim in self.dims.as_slice() {
             if dim.is_over(e) {
                 return dim.holds(c, index);

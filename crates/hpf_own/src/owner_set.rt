@@ -4,12 +4,13 @@ ghost use Rattle.std.specs.Prelude.{◌≡◌};
 ghost use Rattle.hpf_own.specs.OwnerSet.{IsFirstFrom};
 ghost use Rattle.hpf_own.specs.Members.{members};
 
+use crate::limits::PROCESSORS;
 use std::marker::Model;
 
 /// The owners of an element. It is seen as the ascending list of their numbers.
 #[derive(Drop)]
 pub struct OwnerSet {
-    numbers: [u32; 64],
+    numbers: [u32; PROCESSORS],
     count: u8,
 }
 
@@ -29,7 +30,7 @@ impl OwnerSet {
     pub(crate) fn new(bits: u64) -> OwnerSet
         ensures { result ≡ members bits }
     {
-        let mut numbers = [0; 64];
+        let mut numbers = [0; PROCESSORS];
         let mut count = 0u8;
         let mut from = 0;
         while let Some(p) = first_from(bits, from) {
@@ -53,7 +54,7 @@ impl OwnerSet {
 fn first_from(set: u64, from: u32) -> Option<u32>
     ensures { IsFirstFrom set from result }
 {
-    if from >= 64 {
+    if from >= u64::BITS {
         return None;
     }
     let rest = set >> from;

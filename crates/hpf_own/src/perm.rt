@@ -6,15 +6,17 @@ ghost use Rattle.hpf_own.specs.Space.{LiesIn};
 ghost use Rattle.hpf_own.specs.Lists.{IsPerm, IsShort};
 ghost use Rattle.hpf_own.specs.Mapping.{AreInLimits};
 ghost use Rattle.hpf_own.specs.Correspondence.{ExtentsAgree, corresponding};
+ghost use Rattle.hpf_own.specs.Limits.{dimension_limit};
 
 use crate::bounds::Bounds;
+use crate::limits::DIMENSIONS;
 use std::marker::Model;
 
 /// A permutation of the dimensions of an array, counted from 1. It is seen as the list of them, at least one and at most
 /// seven.
 #[derive(Clone, Copy, PartialEq, Eq)]
 pub struct Perm {
-    dims: [u32; 7],
+    dims: [u32; DIMENSIONS],
     rank: u8,
 }
 
@@ -41,7 +43,7 @@ impl Perm {
         ensures some { IsSome result ↔ IsPerm dims.now }
         ensures same { IfSome result (λ perm. perm ≡ dims.now) }
     {
-        if dims.is_empty() || dims.len() > 7 || !is_permutation(dims) {
+        if dims.is_empty() || dims.len() > DIMENSIONS || !is_permutation(dims) {
             return None;
         }
         Some(Perm::keep(dims))
@@ -50,7 +52,7 @@ impl Perm {
     /// Each dimension in its own place.
     pub fn identity(rank: u32) -> Perm
         requires least { 1 ≤ rank }
-        requires greatest { rank ≤ 7 }
+        requires greatest { rank ≤ dimension_limit }
         ensures { result ≡ range_with_len 1 rank }
     {
         let dims = [1, 2, 3, 4, 5, 6, 7];
@@ -62,7 +64,7 @@ impl Perm {
         requires { IsPerm dims.now }
         ensures { result ≡ dims.now }
     {
-        let mut kept = [0; 7];
+        let mut kept = [0; DIMENSIONS];
         for (d, dim) in dims.iter().enumerate() {
             kept[d] = *dim;
         }
@@ -111,7 +113,7 @@ fn moved(i: i64, low: i64, other: i64) -> i64
 
 /// Whether each number from 1 to their number is among them.
 fn is_permutation(dims: &[u32]) -> bool
-    requires { length dims.now ≤ 7 }
+    requires { length dims.now ≤ dimension_limit }
     ensures { IsTrue result ↔ IsPermutation (range_with_len 1 (length dims.now)) dims.now }
 {
     for dim in 0..dims.len() as u32 {

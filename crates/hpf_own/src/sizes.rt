@@ -3,14 +3,16 @@
 ghost use Rattle.std.specs.Prelude.{◌≡◌, ◌≤◌, ◌+◌, ◌*◌, ◌^◌, ◌<◌, ◌↔◌, IsSome, IfSome, IsTrue, All, [], ◌∷◌};
 ghost use Rattle.hpf_own.specs.Lists.{IsSizes};
 ghost use Rattle.hpf_own.specs.Space.{product};
+ghost use Rattle.hpf_dist.specs.Limits.{processor_limit};
 
+use crate::limits::{DIMENSIONS, PROCESSORS};
 use std::marker::Model;
 
 /// How many processors an arrangement has along each of its dimensions. It is seen as the list of them, at least one
 /// and at most seven.
 #[derive(Clone, Copy, PartialEq, Eq)]
 pub struct Sizes {
-    sizes: [u32; 7],
+    sizes: [u32; DIMENSIONS],
     rank: u8,
 }
 
@@ -37,10 +39,10 @@ impl Sizes {
         ensures some { IsSome result ↔ IsSizes sizes.now }
         ensures same { IfSome result (λ kept. kept ≡ sizes.now) }
     {
-        if sizes.is_empty() || sizes.len() > 7 || !are_few(sizes) {
+        if sizes.is_empty() || sizes.len() > DIMENSIONS || !are_few(sizes) {
             return None;
         }
-        let mut kept = [0; 7];
+        let mut kept = [0; DIMENSIONS];
         for (d, size) in sizes.iter().enumerate() {
             kept[d] = *size;
         }
@@ -83,12 +85,12 @@ impl Sizes {
 
 /// Whether none is 0 and their product is at most 64.
 fn are_few(sizes: &[u32]) -> bool
-    ensures { IsTrue result ↔ (All (λ size. 1 ≤ size) sizes.now × (product sizes.now ≤ 64)) }
+    ensures { IsTrue result ↔ (All (λ size. 1 ≤ size) sizes.now × (product sizes.now ≤ processor_limit)) }
 {
     let mut count = 1;
     for size in sizes {
         count *= u64::from(*size);
-        if count == 0 || count > 64 {
+        if count == 0 || count > PROCESSORS as u64 {
             return false;
         }
     }

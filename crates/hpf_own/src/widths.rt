@@ -2,7 +2,9 @@
 
 ghost use Rattle.std.specs.Prelude.{◌≡◌, ◌≤◌, ◌↔◌, IsSome, IfSome, replicate};
 ghost use Rattle.hpf_own.specs.Lists.{IsShort};
+ghost use Rattle.hpf_own.specs.Limits.{dimension_limit};
 
+use crate::limits::DIMENSIONS;
 use std::marker::Model;
 
 /// The widths of a shadow along one dimension, in elements: how many are held below an element that is owned, and how
@@ -16,7 +18,7 @@ pub struct Width {
 /// The widths of a shadow. It is seen as the list of them, at least one and at most seven.
 #[derive(Clone, Copy, PartialEq, Eq)]
 pub struct Widths {
-    widths: [Width; 7],
+    widths: [Width; DIMENSIONS],
     rank: u8,
 }
 
@@ -45,10 +47,10 @@ impl Widths {
         ensures some { IsSome result ↔ IsShort widths.now }
         ensures same { IfSome result (λ kept. kept ≡ widths.now) }
     {
-        if widths.is_empty() || widths.len() > 7 {
+        if widths.is_empty() || widths.len() > DIMENSIONS {
             return None;
         }
-        let mut kept = [Width { low: 0, high: 0 }; 7];
+        let mut kept = [Width { low: 0, high: 0 }; DIMENSIONS];
         for (d, width) in widths.iter().enumerate() {
             kept[d] = *width;
         }
@@ -61,11 +63,11 @@ impl Widths {
     /// No shadow, for an array of so many dimensions.
     pub(crate) fn none(rank: u32) -> Widths
         requires least { 1 ≤ rank }
-        requires greatest { rank ≤ 7 }
+        requires greatest { rank ≤ dimension_limit }
         ensures { result ≡ replicate rank no_width }
     {
         Widths {
-            widths: [Width { low: 0, high: 0 }; 7],
+            widths: [Width { low: 0, high: 0 }; DIMENSIONS],
             rank: rank as u8,
         }
     }

@@ -3,7 +3,8 @@ use Rattle.std.proofs.Common.{◌≡◌, ◌≢◌, ◌+◌, ◌<◌, ◌≤◌,
 use Rattle.std.proofs.lemmas.Bool.Decides.{nat_tests}
 use Rattle.hpf_io.specs.Files.{Files, HasFront}
 use Rattle.hpf_io.specs.States.{LoaderState}
-use Rattle.hpf_frame.specs.FrameFile.{elements}
+use Rattle.hpf_frame.specs.FrameFile.{version_one, elements}
+use Rattle.hpf_gen.specs.Generated.{generated}
 use Rattle.hpf_lex.specs.declared.refusal.MapError.{MapError}
 use Rattle.hpf_lex.specs.declared.refusal.MapError.TheVariants as answer
 use Rattle.hpf_lex.specs.Statement.{max_text}
@@ -27,7 +28,7 @@ use Rattle.hpf_request.specs.declared.request.Request.{Request}
 use Rattle.hpf_request.specs.declared.words.Action.{Action}
 use Rattle.hpf_request.specs.declared.words.Action.TheVariants as action
 use Rattle.hpf_request.specs.Decided.{ComesTo, Decided, Judged}
-use Rattle.hpf_request.specs.Deed.{Print, Stream}
+use Rattle.hpf_request.specs.Deed.{Print, Compose, Stream}
 use Rattle.hpf_request.specs.Denials.{IsOfText}
 use Rattle.hpf_request.specs.Form.{Form, IsFormOf}
 use Rattle.hpf_request.specs.Named.{IsNamed, IsUnnamed, Broken, NoArray}
@@ -102,6 +103,11 @@ ran items form none is few = passed action.Run items (Granted (Stream (flow_of f
     by : (b : Bool) → nat_le (elements form.extents) most_elements ≡ b → Granted (Stream (flow_of form)) ≡ run_verdict form
     by true at = rw at refl
     by false many = absurd (grind (arith, nat_tests, few, many))
+
+-- frames are made for a form
+pub made : (items : List ItemTree) (frames seed : ℕ) (form : Form) (extents : List ℕ) → refusal needed.Pipeline items ≡ None → IsFormOf items form → extents ≡ form.extents → Decides (action.Make frames seed) items (Granted (Compose (generated version_one extents seed frames)))
+made items frames seed form extents none is same =
+    passed (action.Make frames seed) items (Granted (Compose (generated version_one extents seed frames))) none (form, is, ap (λ (z : List ℕ). Granted (Compose (generated version_one z seed frames))) same)
 
 -- ---- processors and names
 

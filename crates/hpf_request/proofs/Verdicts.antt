@@ -23,7 +23,7 @@ use Rattle.hpf_request.specs.declared.words.Action.{Action}
 use Rattle.hpf_request.specs.declared.words.Action.TheVariants as action
 use Rattle.hpf_request.specs.Deed.{Compose, Print, Stream}
 use Rattle.hpf_request.specs.Form.{Form}
-use Rattle.hpf_request.specs.Order.{Verdict, Denied, Granted, Judges, Faulty, Refused, Passed, Comes, Order, NoAction, NotBuilt, OfText, refused_by, most_elements, run_verdict, owners_verdict, local_verdict}
+use Rattle.hpf_request.specs.Order.{Verdict, Denied, Granted, Judges, Faulty, Refused, Passed, Comes, Order, NoAction, NotBuilt, OfText, refused_by, run_verdict, make_verdict}
 use Rattle.hpf_request.specs.Pipeline.{flow_of}
 use Rattle.hpf_request.specs.Words.{Asks, built}
 use Rattle.hpf_request.proofs.Alike.{OnlyIndices, one_owners, one_local}
@@ -69,6 +69,7 @@ one_coming only action.Check items v w f g = f ∙ sym g
 one_coming only (action.Owners name) items v w f g = f.2 ∙ (one_owners only items name f.0 g.0 f.1 g.1 ∙ sym g.2)
 one_coming only (action.Local name p) items v w f g = f.2 ∙ (one_local only items name p f.0 g.0 f.1 g.1 ∙ sym g.2)
 one_coming only action.Run items v w f g = f.2 ∙ (ap run_verdict (one_form only items f.0 g.0 f.1 g.1) ∙ sym g.2)
+one_coming only (action.Make frames seed) items v w f g = f.2 ∙ (ap (make_verdict frames seed) (one_form only items f.0 g.0 f.1 g.1) ∙ sym g.2)
 
 one_judgement : ReadOnce → (asked : Action) (text : List ℕ) (v w : Verdict) → Judges asked text v → Judges asked text w → v ≡ w
 one_judgement once asked text v w (Faulty r f e) (Faulty t g h) = e ∙ (ap (λ (z : MapRefusal). Denied (refusal_status z)) (fault_once once text r t f g) ∙ sym h)
@@ -128,38 +129,3 @@ one_verdict one once words loader all v w is (OfText a m text asks loaded judged
     let same = one_asked one words a b m n asks asks' in
     let texts = one_front all m n text other same.1 (loaded.front all is) (loaded'.front all is) in
     one_judgement once b other v w (subst (λ (z : List ℕ). Judges b z v) texts (subst (λ (z : Action). Judges z text v) same.0 judged)) judged'
-
--- ---- no text is made while it is given, so far
-
-owned_texts : (m : Option PlainMapping) (text : List ℕ) → Granted (Compose text) ≡ owners_verdict m → ⊥
-owned_texts None text e = absurd cc
-owned_texts (Some m) text e = absurd cc
-
-part_texts : (b : Bool) (text part : List ℕ) → Granted (Compose text) ≡ cond b (Granted (Print part [])) (Denied (status.Usage 3)) → ⊥
-part_texts true text part e = absurd cc
-part_texts false text part e = absurd cc
-
-local_texts : (p : ℕ) (m : Option PlainMapping) (text : List ℕ) → Granted (Compose text) ≡ local_verdict p m → ⊥
-local_texts p None text e = absurd cc
-local_texts p (Some m) text e = part_texts (nat_lt p (product m.procs)) text (local_text (owned_part m p).indices (held_part m p).indices) e
-
-run_texts : (b : Bool) (form : Form) (text : List ℕ) → Granted (Compose text) ≡ cond b (Granted (Stream (flow_of form))) (Denied (refusal_status not_built)) → ⊥
-run_texts true form text e = absurd cc
-run_texts false form text e = absurd cc
-
-never_comes : (asked : Action) (items : List ItemTree) (text : List ℕ) → Comes asked items (Granted (Compose text)) → ⊥
-never_comes action.Show items text e = absurd cc
-never_comes action.Check items text e = absurd cc
-never_comes (action.Owners name) items text f = owned_texts f.0 text f.2
-never_comes (action.Local name p) items text f = local_texts p f.0 text f.2
-never_comes action.Run items text f = run_texts (nat_le (elements f.0.extents) most_elements) f.0 text f.2
-
-never_judged : (asked : Action) (text made : List ℕ) → Judges asked text (Granted (Compose made)) → ⊥
-never_judged asked text made (Faulty r f e) = absurd cc
-never_judged asked text made (Refused items says r is e) = absurd cc
-never_judged asked text made (Passed items says clear comes) = never_comes asked items made comes
-
-pub never_composed : (words : List (List ℕ)) (loader : LoaderState) (made : List ℕ) → Order words loader (Granted (Compose made)) → ⊥
-never_composed words loader made (NoAction none e) = absurd cc
-never_composed words loader made (NotBuilt asked name asks unbuilt e) = absurd cc
-never_composed words loader made (OfText asked name text asks loaded judged) = never_judged asked text made judged

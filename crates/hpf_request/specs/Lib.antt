@@ -5,7 +5,6 @@ pub mod CountsText
 pub mod Part
 pub mod Mark
 pub mod Parts
-pub mod MarkLine
 pub mod MarkLines
 pub mod Pipeline
 pub mod Deed

@@ -1,6 +1,6 @@
 -- The lines of the marks of all processors.
 use Rattle.std.specs.Prelude.{ℕ, ◌+◌, ℤ, List, [], ◌∷◌, ◌++◌, length, map}
-use Rattle.hpf_request.specs.MarkLine.{mark_line}
+use Rattle.hpf_report.specs.MarkLine.{mark_line}
 use Rattle.hpf_request.specs.Parts.{Holding, holding_of}
 
 -- a line for each part of the one stage, the first of which has this number

@@ -1,7 +1,8 @@
 -- The order of tests: the words, then the text that was loaded, from its first fault to what it means. A row presumes
 -- that those above it were passed.
 use Rattle.std.specs.Prelude.{◌≡◌, ◌≤◌, ◌+◌, nat_le, nat_lt, ℕ, List, [], length, Option, Some, None, if◌then◌else◌}
-use Rattle.hpf_frame.specs.FrameFile.{elements}
+use Rattle.hpf_frame.specs.FrameFile.{version_one, elements}
+use Rattle.hpf_gen.specs.Generated.{generated}
 use Rattle.hpf_io.specs.Files.{Files, HasFront}
 use Rattle.hpf_io.specs.States.{LoaderState}
 use Rattle.hpf_lex.specs.Statement.{max_text}
@@ -26,7 +27,7 @@ use Rattle.hpf_words.specs.Words.{AsksFor}
 use Rattle.hpf_request.specs.declared.words.Action.{Action}
 use Rattle.hpf_request.specs.declared.words.Action.TheVariants as action
 use Rattle.hpf_request.specs.CountsText.{counts_text}
-use Rattle.hpf_request.specs.Deed.{Deed, Print, Stream}
+use Rattle.hpf_request.specs.Deed.{Deed, Print, Compose, Stream}
 use Rattle.hpf_request.specs.Form.{Form, IsFormOf}
 use Rattle.hpf_request.specs.Named.{IsNamed}
 use Rattle.hpf_request.specs.Pipeline.{flow_of}
@@ -44,6 +45,7 @@ refused_by action.Check items = refusal Mapping items
 refused_by (action.Owners name) items = refusal Mapping items
 refused_by (action.Local name p) items = refusal Mapping items
 refused_by action.Run items = refusal Pipeline items
+refused_by (action.Make frames seed) items = refusal Pipeline items
 
 -- the most elements that an array has whose frames run
 abbrev pub most_elements : ℕ
@@ -66,6 +68,10 @@ local_verdict p (Some m) =
     if nat_lt p (product m.procs) then Granted (Print (local_text (owned_part m p).indices (held_part m p).indices) [])
     else Denied (status.Usage 3)
 
+-- what comes of a form for which frames are made: their file, of which a front is given before the rest is made
+abbrev pub make_verdict : (frames seed : ℕ) → Form → Verdict
+make_verdict frames seed form = Granted (Compose (generated version_one form.extents seed frames))
+
 -- what statements come to that an action does not refuse for what they mean
 abbrev pub Comes : Action → List ItemTree → Verdict → Type 0
 Comes action.Show items verdict = verdict ≡ Granted (Print (canonical items) [])
@@ -75,6 +81,8 @@ Comes (action.Owners name) items verdict = (m : Option PlainMapping) × IsNamed 
 Comes (action.Local name p) items verdict = (m : Option PlainMapping) × IsNamed items name m
     × (verdict ≡ local_verdict p m)
 Comes action.Run items verdict = (form : Form) × IsFormOf items form × (verdict ≡ run_verdict form)
+Comes (action.Make frames seed) items verdict = (form : Form) × IsFormOf items form
+    × (verdict ≡ make_verdict frames seed form)
 
 -- What comes of a text when this is asked of it: a fault refuses it, or what it means does, or it comes to what the
 -- action makes of it.

@@ -17,6 +17,7 @@ built asked.Show = Some action.Show
 built (asked.Owners name) = Some (action.Owners name)
 built (asked.Local name processor) = Some (action.Local name processor)
 built (asked.Run workers) = Some action.Run
+built (asked.Make frames seed) = Some (action.Make frames seed)
 built _ = None
 
 -- The words ask for this action, which is built, of the map of this name.

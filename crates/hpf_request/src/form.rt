@@ -50,7 +50,7 @@ pub(crate) fn form_of(alloc: Global, mapping: &Mapping, all: &Held) -> Result<Fo
 }
 
 /// The extents of an array with these bounds.
-fn extents_of(alloc: Global, bounds: &Bounds) -> Result<Vec<u32>, AllocError>
+pub(crate) fn extents_of(alloc: Global, bounds: &Bounds) -> Result<Vec<u32>, AllocError>
     requires { AreInLimits bounds.now }
     ensures { IfOk result (λ extents. extents.items ≡ map extent bounds.now) }
 {

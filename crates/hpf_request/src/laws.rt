@@ -6,8 +6,7 @@ ghost use Rattle.hpf_io.specs.Files.{Files};
 ghost use Rattle.hpf_io.specs.States.{LoaderState};
 ghost use Rattle.hpf_request.specs.declared.words.Action.{Action};
 ghost use Rattle.hpf_stream.specs.Flow.{whole};
-ghost use Rattle.hpf_request.specs.Deed.{Compose};
-ghost use Rattle.hpf_request.specs.Order.{Verdict, Granted, Order};
+ghost use Rattle.hpf_request.specs.Order.{Verdict, Order};
 ghost use Rattle.hpf_request.specs.Pipeline.{Pipeline, output_file, run_flow};
 ghost use Rattle.hpf_request.specs.Words.{Asks};
 
@@ -38,11 +37,6 @@ pub fn one_asking()
 {
     one_line();
 }
-
-/// No action that is built makes its text while it is given.
-pub fn nothing_is_composed()
-    ensures { (words : List (List ℕ)) (loader : LoaderState) (text : List ℕ) → ¬ Order words loader (Granted (Compose text)) }
-{}
 
 /// What a run gives is the frame file of the frames that leave its pipeline.
 pub fn a_run_gives_a_file()

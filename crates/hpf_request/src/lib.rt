@@ -14,7 +14,7 @@ mod request;
 mod words;
 
 pub use form::Form;
-pub use laws::{a_run_gives_a_file, nothing_is_composed, one_asking, one_verdict};
+pub use laws::{a_run_gives_a_file, one_asking, one_verdict};
 pub use part::Part;
 pub use parts::add_frame;
 pub use request::{Request, request_of};

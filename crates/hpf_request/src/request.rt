@@ -13,7 +13,7 @@ ghost use Rattle.hpf_request.specs.Order.{Order, Granted, Denied};
 ghost use Rattle.hpf_request.specs.Request.{deed_of, IsMet};
 ghost use Rattle.hpf_request.specs.Words.{built, spelled};
 
-use crate::form::{Form, all_of, form_of};
+use crate::form::{Form, all_of, extents_of, form_of};
 use crate::map::items_of;
 use crate::named::mapping_of;
 use crate::words::{Action, command_of};
@@ -36,9 +36,18 @@ pub enum Request {
     /// The owners of each element of an array that is mapped so are told.
     Owners(Mapping),
     /// It is told what a processor holds of an array, of which it owns a part.
-    Local { owned: Held, held: Held },
+    Local {
+        owned: Held,
+        held: Held,
+    },
     /// Frames run through the pipeline of this form.
     Run(Form),
+    /// A file of so many frames of an array with these extents is made from a seed.
+    Make {
+        extents: Vec<u32>,
+        frames: u32,
+        seed: u32,
+    },
 }
 
 /// The most elements that an array has whose frames run.
@@ -92,6 +101,7 @@ fn request_in(alloc: Global, action: Action<'_>, text: &[u8]) -> Result<Request,
         Action::Owners { name } => owners_of(alloc, &items, &name),
         Action::Local { name, processor } => local_of(alloc, &items, &name, processor),
         Action::Run => run_of(alloc, &items),
+        Action::Make { frames, seed } => make_of(alloc, &items, frames, seed),
     }
 }
 
@@ -141,4 +151,17 @@ fn run_of(alloc: Global, items: &Items) -> Result<Request, Status>
     }
     let form = form_of(alloc, mapping, &all)?;
     Ok(Request::Run(form))
+}
+
+/// What statements come to for which frames are to be made.
+fn make_of(alloc: Global, items: &Items, frames: u32, seed: u32) -> Result<Request, Status>
+    ensures { Decided (Action.Make frames seed) (map item_tree items.now) result }
+{
+    let program = resolve(alloc, items, Need::Pipeline)?;
+    let extents = extents_of(alloc, program.stage(0).mapping.bounds())?;
+    Ok(Request::Make {
+        extents,
+        frames,
+        seed,
+    })
 }

@@ -26,6 +26,8 @@ pub enum Action<'a> {
     Local { name: Name<'a>, processor: u32 },
     /// Frames run through its pipeline.
     Run,
+    /// A file of so many frames for its pipeline is made from a seed.
+    Make { frames: u32, seed: u32 },
 }
 
 /// An action, and the name of the map that it is for.
@@ -70,6 +72,7 @@ fn built<'a>(asked: Asked<'a>) -> Option<Action<'a>>
         Asked::Owners { name } => Some(Action::Owners { name }),
         Asked::Local { name, processor } => Some(Action::Local { name, processor }),
         Asked::Run { .. } => Some(Action::Run),
+        Asked::Make { frames, seed } => Some(Action::Make { frames, seed }),
         _ => None,
     }
 }

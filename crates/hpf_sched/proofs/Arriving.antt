@@ -1,9 +1,9 @@
 -- Each place of what a processor holds is entered once, from the place of its source.
-use Rattle.std.proofs.Common.{◌≡◌, ℕ, zero, suc, ◌+◌, ◌<◌, ◌==◌, Bool, true, false, cond, List, [], ◌∷◌, length, map, filter, get_or, slice_get, Option, Some, Contains, All, ◌≤◌, IsTrue, ℤ, refl, sym, ap, ◌∙◌, subst, arith, inl, inr}
+use Rattle.std.proofs.Common.{◌≡◌, ℕ, zero, suc, ◌<◌, ◌==◌, Bool, true, false, cond, List, [], ◌∷◌, length, map, filter, get_or, slice_get, Option, Some, Contains, All, ◌≤◌, ℤ, refl, sym, ap, ◌∙◌, subst, arith, inl, inr}
 use Rattle.std.specs.Option.{option_map}
 use Rattle.std.specs.Ordering.{int_eq}
 use Rattle.std.specs.Cmp.Lexicographic.{pointwise}
-use Rattle.std.proofs.lemmas.Bool.{false≢true, cases_Bool, cases_order}
+use Rattle.std.proofs.lemmas.Bool.{cases_order}
 use Rattle.std.proofs.lemmas.Bool.Decides.{Decides-eqb}
 use Rattle.std.proofs.lemmas.List.{get_or_default, length-map}
 use Rattle.std.proofs.lemmas.List.Elements.{Contains-get_or}
@@ -11,11 +11,11 @@ use Rattle.std.proofs.lemmas.Option.{slice_get-map, slice_get_within, slice_get-
 use Rattle.hpf_num.specs.declared.run.Run.{Run}
 use Rattle.hpf_own.specs.Space.{indices, LiesIn, product, StandOnce}
 use Rattle.hpf_own.specs.Mapping.{PlainMapping, IsMapping}
-use Rattle.hpf_own.specs.Owners.{owns, sender, sends}
+use Rattle.hpf_own.specs.Owners.{sender}
 use Rattle.hpf_own.specs.Held.{is_held, owned_part, held_part}
 use Rattle.hpf_sched.specs.declared.step.Move.{Move}
-use Rattle.hpf_sched.specs.Transfer.{IsHop, place_in, source_of, arrivals, move_of, transfer}
-use Rattle.hpf_sched.proofs.Finding.{same_index_decides, contains_head, contains_behind, contains_from, contains_mapped, found, place_is}
+use Rattle.hpf_sched.specs.Transfer.{IsHop, source_of, arrivals, move_of, transfer}
+use Rattle.hpf_sched.proofs.Finding.{same_index_decides, contains_behind, contains_from, contains_mapped, found, place_is}
 use Rattle.hpf_sched.proofs.Planning.{Laws, Pair, is_filtered, passes_filter, sent_is, source_lies, goes_in_order}
 
 -- ---- a filter of different items has different items

@@ -8,3 +8,5 @@ pub mod Entering
 pub mod Shifts
 pub mod Planning
 pub mod Arriving
+pub mod Counting
+pub mod Alike

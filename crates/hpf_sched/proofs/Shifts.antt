@@ -10,6 +10,7 @@ use Rattle.hpf_own.specs.Space.{product}
 use Rattle.hpf_sched.specs.declared.step.Move.{Move}
 use Rattle.hpf_sched.specs.Lines.{side_moves, box_side}
 use Rattle.hpf_sched.proofs.Meeting.{entry_within}
+use Rattle.hpf_num.specs.Limits.{integer_limit}
 
 -- what holds of what came holds of what it implies
 pub if_ok : {A E : Type 0} (P Q : A → Type 0) (r : Result A E) → ((v : A) → P v → Q v) → IfOk r P → IfOk r Q
@@ -22,10 +23,10 @@ entry xs perm d same is below = rw same (entry_within perm d is below)
 
 -- lower bounds are small
 pub record IsSmallLow (low : ℤ) : Type 0 where
-  pub least : neg_ℤ (pos (2 ^ 31 - 1)) ≤ℤ low
-  pub greatest : low ≤ℤ pos (2 ^ 31 - 1)
+  pub least : neg_ℤ (pos integer_limit) ≤ℤ low
+  pub greatest : low ≤ℤ pos integer_limit
 
-between_is : (low high : ℤ) → neg_ℤ (pos (2 ^ 31 - 1)) ≤ℤ low → high ≤ℤ pos (2 ^ 31 - 1) → low ≤ℤ high → IsSmallLow low
+between_is : (low high : ℤ) → neg_ℤ (pos integer_limit) ≤ℤ low → high ≤ℤ pos integer_limit → low ≤ℤ high → IsSmallLow low
 between_is low high a b c = record { least = a; greatest = omega (arith, ints) }
 
 pub small_low : (bounds : List Run) (e : ℕ) (run : Run) → AreInLimits bounds → slice_get bounds e ≡ Some run → run.low ≤ℤ run.high → IsSmallLow run.low
@@ -41,7 +42,7 @@ pub record IsShift (a b : ℤ) : Type 0 where
   pub shift : FitsSigned w64 (a -ℤ b)
   pub small : unsigned_abs (a -ℤ b) ≤ 2 ^ 32
 
-shift_of : (a b : ℤ) → neg_ℤ (pos (2 ^ 31 - 1)) ≤ℤ a → a ≤ℤ pos (2 ^ 31 - 1) → neg_ℤ (pos (2 ^ 31 - 1)) ≤ℤ b → b ≤ℤ pos (2 ^ 31 - 1) → IsShift a b
+shift_of : (a b : ℤ) → neg_ℤ (pos integer_limit) ≤ℤ a → a ≤ℤ pos integer_limit → neg_ℤ (pos integer_limit) ≤ℤ b → b ≤ℤ pos integer_limit → IsShift a b
 shift_of a b h k l m = record { first = omega (arith, ints); second = omega (arith, ints); shift = omega (arith, ints); small = omega (arith, ints) }
 
 pub shift_fits : (a b : ℤ) → IsSmallLow a → IsSmallLow b → IsShift a b

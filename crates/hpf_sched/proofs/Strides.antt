@@ -12,6 +12,7 @@ use Rattle.hpf_own.specs.Held.{Part, IsMadeOf}
 use Rattle.hpf_sched.specs.declared.step.Move.{Move}
 use Rattle.hpf_sched.specs.Places.{place_by}
 use Rattle.hpf_sched.specs.Lines.{plus, crossed, side_move, side_moves, IsSmall}
+use Rattle.hpf_own.specs.Limits.{element_limit}
 
 -- ---- how many choices
 length-flat_map-even : {A B : Type 0} (f : A → List B) (n : ℕ) → ((x : A) → length (f x) ≡ n) → (xs : List A) → length (flat_map f xs) ≡ length xs * n
@@ -37,7 +38,7 @@ counts_some sides h = All-map (λ (n : ℕ). 1 ≤ n) length sides h
 
 -- a front of the counts comes to no more than the elements of a part
 pub stride_few : (part : Part) (sides : List (List ℤ)) (k : ℕ) → ((sizes : List ℕ) (k : ℕ) → All (λ size. 1 ≤ size) sizes → product (take k sizes) ≤ product sizes)
-    → IsMadeOf part sides → length part.indices ≤ 2 ^ 24 → product (take k (map length sides)) ≤ 2 ^ 24
+    → IsMadeOf part sides → length part.indices ≤ element_limit → product (take k (map length sides)) ≤ element_limit
 stride_few part sides k front made few =
     elim made.all_or_none [
       | inl some ↦ omega (arith, front (map length sides) k (counts_some sides some), length-choices sides, ap (λ (xs : List (List ℤ)). length xs) made.every)
@@ -46,7 +47,7 @@ stride_few part sides k front made few =
 
 -- nor does a list of subscripts
 pub side_few : (part : Part) (sides : List (List ℤ)) (k : ℕ) (side : List ℤ) → ((sizes : List ℕ) (k : ℕ) → All (λ size. 1 ≤ size) sizes → k < length sizes → get_or sizes k 0 ≤ product sizes)
-    → IsMadeOf part sides → length part.indices ≤ 2 ^ 24 → k < length sides → get_or sides k [] ≡ side → length side ≤ 2 ^ 24
+    → IsMadeOf part sides → length part.indices ≤ element_limit → k < length sides → get_or sides k [] ≡ side → length side ≤ element_limit
 side_few part sides k side one made few below is =
     let count : get_or (map length sides) k 0 ≡ length side = get_or-map length sides k [] 0 below ∙ ap length is in
     elim made.all_or_none [
@@ -69,12 +70,12 @@ place_within (y ∷ xs) x =
     let rest = place_within xs x in
     elim (cases_Bool (int_eq y x)) [ inl here ↦ rw here (omega arith) | inr other ↦ rw other (omega arith) ]
 
-small_product : (k n : ℕ) → k ≤ 2 ^ 24 → n ≤ 2 ^ 24 → k * n ≤ 1 * 2 ^ 48
+small_product : (k n : ℕ) → k ≤ element_limit → n ≤ element_limit → k * n ≤ 1 * 2 ^ 48
 small_product k n a b =
-    let c : k * n ≤ k * 2 ^ 24 = mul-le-mul_left k b in
+    let c : k * n ≤ k * element_limit = mul-le-mul_left k b in
     omega arith
 
-pub side_small : (owned held : List ℤ) (shift : ℤ) (from to : ℕ) → length owned ≤ 2 ^ 24 → length held ≤ 2 ^ 24 → from ≤ 2 ^ 24 → to ≤ 2 ^ 24 → All (IsSmall 1) (side_moves owned held shift from to)
+pub side_small : (owned held : List ℤ) (shift : ℤ) (from to : ℕ) → length owned ≤ element_limit → length held ≤ element_limit → from ≤ element_limit → to ≤ element_limit → All (IsSmall 1) (side_moves owned held shift from to)
 side_small owned held shift from to o h f t =
     All-map (IsSmall 1) (side_move owned held shift from to) (filter (λ x. has owned (x +ℤ shift)) held) (λ k d below.
     let x = get_or (filter (λ x. has owned (x +ℤ shift)) held) k d in

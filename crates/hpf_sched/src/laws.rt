@@ -1,6 +1,9 @@
 //! Laws of routes, each the contract of a function that does nothing.
 
 ghost use Rattle.std.specs.Prelude.{◌≡◌, ◌<◌, ℕ, ℤ, pos, List, length, map, slice_get, slice_index_or, Some, Contains};
+ghost use Rattle.std.specs.List.{sum_by};
+ghost use Rattle.hpf_own.specs.Alike.{AreAlike};
+ghost use Rattle.hpf_own.specs.Owners.{numbers};
 ghost use Rattle.hpf_own.specs.Space.{product};
 ghost use Rattle.hpf_own.specs.Mapping.{PlainMapping};
 ghost use Rattle.hpf_own.specs.Held.{owned_part, held_part};
@@ -24,6 +27,18 @@ pub fn each_place_once()
         → p < product from.procs → r < product from.procs
         → slice_get (transfer from to perm p q) i ≡ Some first → slice_get (transfer from to perm r q) j ≡ Some second
         → first.to ≡ second.to → (p ≡ r) × (i ≡ j) }
+{
+    hpf_own::laws::element_order();
+    hpf_own::laws::correspondence();
+    hpf_own::laws::one_sender();
+    hpf_own::laws::places();
+    hpf_own::laws::products();
+}
+
+/// From all senders together comes as much as a processor holds.
+pub fn all_arrives()
+    ensures { (from to : PlainMapping) (perm : List ℕ) (q : ℕ) → IsHop from to perm
+        → sum_by (λ p. length (transfer from to perm p q)) (numbers from.procs) ≡ length (held_part to q).indices }
 {
     hpf_own::laws::element_order();
     hpf_own::laws::correspondence();
@@ -64,4 +79,17 @@ pub fn parts_arrive()
     hpf_own::laws::one_sender();
     hpf_own::laws::places();
     hpf_own::laws::products();
+}
+
+/// What goes between mappings is what goes between others that nobody can tell from them.
+pub fn alike()
+    ensures { (from to other receiving : PlainMapping) (perm : List ℕ) (p q : ℕ) → IsHop from to perm
+        → AreAlike from other → AreAlike to receiving → p < product from.procs → q < product to.procs
+        → transfer from to perm p q ≡ transfer other receiving perm p q }
+{
+    hpf_own::laws::alike();
+    hpf_own::laws::element_order();
+    hpf_own::laws::correspondence();
+    hpf_own::laws::one_sender();
+    hpf_own::laws::places();
 }

@@ -3,6 +3,7 @@
 ghost use Rattle.std.specs.Prelude.{◌≡◌, ◌*◌, ◌^◌, ◌<◌, ◌≤◌, ◌++◌, cond, length, map, get_or, Some, None, All, IfOk, OnOk, ℤ, pos, ◌+ℤ◌, unsigned_abs};
 ghost use Rattle.hpf_num.specs.Runs.{has};
 ghost use Rattle.hpf_sched.specs.Lines.{plus, crossed, side_move, side_moves, IsSmall};
+ghost use Rattle.hpf_own.specs.Limits.{element_limit};
 
 use crate::step::Move;
 use hpf_num::Runs;
@@ -52,11 +53,11 @@ pub(crate) fn side_moves(
     held: &Runs,
     rise: Rise,
 ) -> Result<Vec<Move>, AllocError>
-    requires owned { length owned.now ≤ 2 ^ 24 }
-    requires held { length held.now ≤ 2 ^ 24 }
+    requires owned { length owned.now ≤ element_limit }
+    requires held { length held.now ≤ element_limit }
     requires shift { unsigned_abs rise.shift ≤ 2 ^ 32 }
-    requires from { rise.from ≤ 2 ^ 24 }
-    requires to { rise.to ≤ 2 ^ 24 }
+    requires from { rise.from ≤ element_limit }
+    requires to { rise.to ≤ element_limit }
     ensures { IfOk result (λ moves. moves.items ≡ side_moves owned.now held.now rise.shift rise.from rise.to) }
 {
     let mut moves = Vec::new(alloc);
@@ -71,11 +72,11 @@ pub(crate) fn side_moves(
 /// What the subscript at place `k` adds to them, if it is one of these.
 fn side_move(owned: &Runs, held: &Runs, rise: Rise, k: u64) -> Option<Move>
     requires place { k < length held.now }
-    requires owned { length owned.now ≤ 2 ^ 24 }
-    requires held { length held.now ≤ 2 ^ 24 }
+    requires owned { length owned.now ≤ element_limit }
+    requires held { length held.now ≤ element_limit }
     requires shift { unsigned_abs rise.shift ≤ 2 ^ 32 }
-    requires from { rise.from ≤ 2 ^ 24 }
-    requires to { rise.to ≤ 2 ^ 24 }
+    requires from { rise.from ≤ element_limit }
+    requires to { rise.to ≤ element_limit }
     ensures { let x = get_or held.now k (pos 0) in
         result ≡ cond (has owned.now (x +ℤ rise.shift)) (Some (side_move owned.now held.now rise.shift rise.from rise.to x)) None }
 {

@@ -8,6 +8,7 @@ ghost use Rattle.hpf_own.specs.Held.{IsMadeOf, owned_part, held_part};
 ghost use Rattle.hpf_own.specs.Correspondence.{ExtentsAgree};
 ghost use Rattle.hpf_sched.specs.Lines.{IsSmall, box_moves, box_side};
 ghost use Rattle.hpf_sched.specs.Transfer.{transfer};
+ghost use Rattle.hpf_own.specs.Limits.{dimension_limit, element_limit};
 
 use crate::chain::Chain;
 use crate::lines::{Rise, crossed, side_moves};
@@ -90,7 +91,7 @@ fn moves_between(
     requires held { held.now.rank ≡ length perm.now }
     ensures moves { IfOk result (λ moves. (os hs : List (List ℤ)) → IsMadeOf owned.now os → IsMadeOf held.now hs
         → moves.items ≡ box_moves (box_side before.now bounds.now perm.now os hs) 0 (length perm.now)) }
-    ensures small { IfOk result (λ moves. All (IsSmall 7) moves.items) }
+    ensures small { IfOk result (λ moves. All (IsSmall dimension_limit) moves.items) }
 {
     let mut moves = Vec::new(alloc);
     moves.push(Move { from: 0, to: 0 })?;
@@ -139,7 +140,7 @@ fn moves_along(
 fn stride(part: &Held, d: u32) -> u64
     requires { d < part.now.rank }
     ensures stride { (sides : List (List ℤ)) → IsMadeOf part.now sides → result ≡ product (take d (map length sides)) }
-    ensures few { result ≤ 2 ^ 24 }
+    ensures few { result ≤ element_limit }
 {
     laws::places();
     laws::products();
@@ -153,7 +154,7 @@ fn stride(part: &Held, d: u32) -> u64
 
 /// These moves, one after another.
 fn joined(alloc: Global, moves: &[Move]) -> Result<Chain, AllocError>
-    requires { All (IsSmall 7) moves.now }
+    requires { All (IsSmall dimension_limit) moves.now }
     ensures { IfOk result (λ chain. chain ≡ moves.now) }
 {
     let mut chain = Chain::new(alloc);

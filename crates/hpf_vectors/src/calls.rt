@@ -5,6 +5,7 @@ mod endings;
 mod faults;
 mod lines;
 mod locals;
+mod makes;
 mod mappings;
 mod maps;
 mod owners;
@@ -67,11 +68,15 @@ pub const RUNS: &[Table] = &[
     },
 ];
 
-/// What is shown, and how calls end.
+/// What is shown and made, and how calls end.
 pub const ENDS: &[Table] = &[
     Table {
         title: "calls: shows",
         rows: shows::ROWS,
+    },
+    Table {
+        title: "calls: makes",
+        rows: makes::ROWS,
     },
     Table {
         title: "statuses",

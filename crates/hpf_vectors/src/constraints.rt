@@ -150,7 +150,8 @@ names INTEGER %, X, Y\nINTEGER Z, W~refused 26 at 2:9
 names !HPF$ DISTRIBUTE Z(BLOCK)\nINTEGER %, X, Z~refused 23 at 1:18
 names !HPF$ DISTRIBUTE Z(BLOCK)\nINTEGER %, X, Y\nINTEGER Z~refused 26 at 3:9
 names !HPF$ DISTRIBUTE W(BLOCK)\nINTEGER %, X, Y\nINTEGER Z, W~refused 23 at 1:18
-names INTEGER %, X, Y\nINTEGER, PARAMETER :: Z = (/ 1 /)~refused 26 at 2:23
+names INTEGER %, X, Y\nINTEGER, PARAMETER :: Z = (/ 1 /)~refused 24 at 2:23
+names INTEGER %, X, Y\nINTEGER, PARAMETER :: Z(2) = (/ 1, 2 /)~refused 26 at 2:23
 "#;
 
 /// Rows of alignments, distributions, cycles and the lines of a pipeline, where the mappings of arrays are needed.
@@ -305,6 +306,10 @@ mapping !HPF$ DISTRIBUTE A(GEN_BLOCK(G)) ONTO P\nINTEGER A(10)\n!HPF$ PROCESSORS
 mapping !HPF$ DISTRIBUTE A(GEN_BLOCK(G)) ONTO P\nINTEGER A(10)\n!HPF$ PROCESSORS P(2)\nINTEGER, PARAMETER :: G(3) = (/ -1, 7 /)~refused 24 at 4:23
 mapping !HPF$ DISTRIBUTE A(GEN_BLOCK(G)) ONTO P\nINTEGER A(10)\n!HPF$ PROCESSORS P(2)\nINTEGER, PARAMETER :: G(2) = (/ 3, 7 /), G(3) = (/ -1, 0, 0 /)~refused 21 at 4:42
 mapping !HPF$ DISTRIBUTE A(GEN_BLOCK(G)) ONTO P\nINTEGER A(10)\n!HPF$ PROCESSORS P(2)\nINTEGER, PARAMETER :: G(3) = (/ 3, 0, 7 /), G(2) = (/ 3, 7 /)~refused 29 at 1:20
+mapping !HPF$ DISTRIBUTE A(GEN_BLOCK(G)) ONTO P\nINTEGER A(10)\n!HPF$ PROCESSORS P(2)\nINTEGER, PARAMETER :: G(0) = (/ 1 /)~refused 25 at 4:25
+mapping !HPF$ DISTRIBUTE A(GEN_BLOCK(G)) ONTO P\nINTEGER A(10)\n!HPF$ PROCESSORS P(2)\nINTEGER, PARAMETER :: G(X) = (/ -1, 5, 6 /)~refused 22 at 4:25
+mapping !HPF$ DISTRIBUTE A(GEN_BLOCK(G)) ONTO P\nINTEGER A(10)\n!HPF$ PROCESSORS P(2)\nINTEGER, PARAMETER, DIMENSION(0) :: G = (/ 1 /)~refused 25 at 4:31
+mapping !HPF$ DISTRIBUTE A(INDIRECT(G)) ONTO P\nINTEGER A(10)\n!HPF$ PROCESSORS P(2)\nINTEGER, PARAMETER :: G(0) = (/ 7 /)~refused 25 at 4:25
 mapping !HPF$ DISTRIBUTE A(GEN_BLOCK(G)) ONTO P\nINTEGER A(10), G\n!HPF$ PROCESSORS P(2)\nINTEGER, PARAMETER :: G(3) = (/ 3, 0, 7 /)~refused 23 at 1:30
 mapping INTEGER A(5)\nINTEGER, PARAMETER :: V(5) = (/ 2, 1, 2, 2, 1 /)\n!HPF$ PROCESSORS P(2)\n!HPF$ DISTRIBUTE A(INDIRECT(V)) ONTO P~accepted
 mapping INTEGER A(5)\nINTEGER, PARAMETER :: V(5) = (/ 2, 1, 3, 2, 1 /)\n!HPF$ PROCESSORS P(2)\n!HPF$ DISTRIBUTE A(INDIRECT(V)) ONTO P~refused 33 at 4:20

@@ -192,14 +192,6 @@ gives
 status 1 usage 9: hpfturn ACTION MAP [NAME] [--workers N] [--stage N] [--proc N] [--seed N] [--frames N]
 input left 34
 
-row generated frames
-words hpfturn make M --frames 1 --seed 2
-file M @ M13
-input @ F3
-gives
-status 1 usage 9: hpfturn ACTION MAP [NAME] [--workers N] [--stage N] [--proc N] [--seed N] [--frames N]
-input left 34
-
 row a run on generated frames
 words hpfturn trial M --frames 1
 file M @ M13

@@ -5,8 +5,8 @@ use Rattle.std.proofs.lemmas.Nat.Bits.{bit_at_above, bit_at-zero, bit_at-trailin
 use Rattle.std.proofs.lemmas.Bool.{cases_lt}
 use Rattle.hpf_own.proofs.owner_set.first_from.Goals as goal
 
-pub returns-then-from-ge64 : goal.returns-then-from-ge64
-returns-then-from-ge64 c = λ k more. bit_at_above c.args.set 64 k (search rules) (omega arith)
+pub returns-then-from-ge-BITS : goal.returns-then-from-ge-BITS
+returns-then-from-ge-BITS c = λ k more. bit_at_above c.args.set 64 k (search rules) (omega arith)
 
 -- a bit behind a shift
 behind : (n f k : ℕ) → f ≤ k → bit_at n k ≡ bit_at (n / 2 ^ f) (k - f)

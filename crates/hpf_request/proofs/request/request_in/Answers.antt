@@ -23,3 +23,6 @@ returns-in-Local c = judged_as c.args.action _ c.args.text.now _ c.local_of.resu
 
 pub returns-in-Run : goal.returns-in-Run
 returns-in-Run c = judged_as c.args.action _ c.args.text.now _ c.run_of.result c.in-Run.is c.in_ok-items.ensures.found c.run_of.ensures
+
+pub returns-in-Make : goal.returns-in-Make
+returns-in-Make c = judged_as c.args.action _ c.args.text.now _ c.make_of.result c.in-Make.is c.in_ok-items.ensures.found c.make_of.ensures

@@ -1,7 +1,6 @@
 use Rattle.std.proofs.Common.{List, ℕ}
 use Rattle.hpf_own.specs.Mapping.{PlainMapping}
 use Rattle.hpf_sched.specs.Transfer.{IsHop}
-use Rattle.hpf_sched.proofs.Planning.{Laws}
 use Rattle.hpf_sched.proofs.Arriving.{Known, known_of, carried, filled}
 use Rattle.hpf_sched.proofs.laws.parts_arrive.Goals as goal
 

@@ -1,4 +1,4 @@
-use Rattle.std.proofs.Common.{◌≡◌, List, sym, ap, ◌∙◌}
+use Rattle.std.proofs.Common.{List, sym, ap, ◌∙◌}
 use Rattle.hpf_sched.specs.declared.step.Move.{Move}
 use Rattle.hpf_sched.specs.Moves.{runs}
 use Rattle.hpf_sched.proofs.Runs.{runs_are, runs_cover, runs_longest}

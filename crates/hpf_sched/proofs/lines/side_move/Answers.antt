@@ -1,4 +1,4 @@
-use Rattle.std.proofs.Common.{◌≡◌, ℕ, ◌*◌, ◌^◌, ◌<◌, ◌≤◌, true, false, cond, List, Some, None, length, get_or, slice_get, Contains, ℤ, pos, ◌+ℤ◌, unsigned_abs, neg_ℤ, ◌-◌, ◌≤ℤ◌, to_z, of_z, to_z-of_z, w64, Fits, FitsSigned, refl, sym, ap, ◌∙◌, subst, arith, inl, inr}
+use Rattle.std.proofs.Common.{◌≡◌, ℕ, ◌*◌, ◌^◌, ◌<◌, ◌≤◌, true, false, cond, List, Some, None, length, get_or, slice_get, Contains, ℤ, pos, ◌+ℤ◌, unsigned_abs, neg_ℤ, ◌≤ℤ◌, to_z, of_z, to_z-of_z, w64, Fits, FitsSigned, refl, sym, ap, ◌∙◌, subst, arith, inl, inr}
 use Rattle.std.proofs.lemmas.Bool.{false≢true, cases_Bool}
 use Rattle.std.proofs.lemmas.Bool.Decides.{Decides-int_eq}
 use Rattle.std.proofs.lemmas.Int.{ints}
@@ -11,6 +11,8 @@ use Rattle.hpf_sched.specs.Places.{place_by}
 use Rattle.hpf_sched.specs.Lines.{side_move}
 use Rattle.hpf_sched.proofs.Finding.{has_is, is_had, place_is, members_once, contains_from}
 use Rattle.hpf_sched.proofs.lines.side_move.Goals as goal
+use Rattle.hpf_own.specs.Limits.{element_limit}
+use Rattle.hpf_num.specs.Limits.{integer_limit}
 
 -- a member moved a little is an integer of a word
 record IsMoved (i shift : ℤ) : Type 0 where
@@ -18,15 +20,15 @@ record IsMoved (i shift : ℤ) : Type 0 where
   shift_fits : FitsSigned w64 shift
   moved : FitsSigned w64 (i +ℤ shift)
 
-small_moved : (i shift : ℤ) → neg_ℤ (pos (2 ^ 31 - 1)) ≤ℤ i → i ≤ℤ pos (2 ^ 31 - 1) → unsigned_abs shift ≤ 2 ^ 32 → IsMoved i shift
+small_moved : (i shift : ℤ) → neg_ℤ (pos integer_limit) ≤ℤ i → i ≤ℤ pos integer_limit → unsigned_abs shift ≤ 2 ^ 32 → IsMoved i shift
 small_moved i shift low high small = record { member = omega (arith, ints); shift_fits = omega (arith, ints); moved = omega (arith, ints) }
 
 member_moved : (xs : List ℤ) (k : ℕ) (i shift : ℤ) → AreMembers xs → slice_get xs k ≡ Some i → unsigned_abs shift ≤ 2 ^ 32 → IsMoved i shift
 member_moved xs k i shift h at small =
     let e : get_or xs k i ≡ i = get_or_from_slice_get xs k i i at in
     let s = h.small k i (slice_get_within xs k i at) in
-    let low : neg_ℤ (pos (2 ^ 31 - 1)) ≤ℤ i = rw e at s.least in
-    let high : i ≤ℤ pos (2 ^ 31 - 1) = rw e at s.greatest in
+    let low : neg_ℤ (pos integer_limit) ≤ℤ i = rw e at s.least in
+    let high : i ≤ℤ pos integer_limit = rw e at s.greatest in
     small_moved i shift low high small
 
 -- as the code has it
@@ -72,9 +74,9 @@ returns-in_err-j c =
     c.from_residual-in_err-j.ensures
     ∙ not_had owned held c.args.k c.in_ok-i.i shift _ _ at (moved_is c.in_ok-i.i shift m) (λ there. false≢true (none.1 there))
 
-within_word : (j from n : ℕ) → j < n → n ≤ 2 ^ 24 → from ≤ 2 ^ 24 → Fits w64 (j * from)
+within_word : (j from n : ℕ) → j < n → n ≤ element_limit → from ≤ element_limit → Fits w64 (j * from)
 within_word j from n below few small =
-    let a : j * from ≤ j * 2 ^ 24 = mul-le-mul_left j small in
+    let a : j * from ≤ j * element_limit = mul-le-mul_left j small in
     omega arith
 
 pub overflow_mul-result : goal.overflow_mul-result

@@ -1,4 +1,4 @@
-use Rattle.std.proofs.Common.{◌≡◌, ◌+◌, ℤ, ◌+ℤ◌, ◌*ℤ◌, to_z-of_z, sym, ◌∙◌}
+use Rattle.std.proofs.Common.{◌≡◌, ℤ, ◌+ℤ◌, ◌*ℤ◌, to_z-of_z, sym, ◌∙◌}
 use Rattle.hpf_dist.specs.Shares.{is_share}
 use Rattle.hpf_dist.proofs.Sharing.{small_fits, product_fits, linear_fits, passing_below, one_passes, one_fails}
 use Rattle.hpf_dist.proofs.axis.Axis.runs_of.Goals as goal

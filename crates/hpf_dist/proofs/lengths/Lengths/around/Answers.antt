@@ -1,4 +1,4 @@
-use Rattle.std.proofs.Common.{◌≡◌, ℕ, ◌+◌, ◌<◌, ◌^◌, List, length, get_or, Fits, w64, arith, rules, sym, ap, ◌∙◌}
+use Rattle.std.proofs.Common.{◌≡◌, ℕ, ◌+◌, ◌<◌, ◌^◌, List, length, get_or, arith, rules, ap, ◌∙◌}
 use Rattle.hpf_dist.specs.Sums.{sum_of_first, sums}
 use Rattle.hpf_dist.proofs.Alike.{block_is, around_block}
 use Rattle.hpf_dist.proofs.Blocks.{sums_at, length-sums}

@@ -1,17 +1,18 @@
-use Rattle.std.proofs.Common.{◌≡◌, ℕ, ◌-◌, ◌^◌, ◌<◌, ◌≤◌, List, length, get_or, pos, ℤ, ◌+ℤ◌, ◌-ℤ◌, FitsSigned, to_z, of_z, w64, to_z-of_z, ap, ◌∙◌, arith}
+use Rattle.std.proofs.Common.{◌≡◌, ℕ, ◌<◌, ◌≤◌, List, length, get_or, pos, ℤ, ◌+ℤ◌, ◌-ℤ◌, FitsSigned, to_z, of_z, w64, to_z-of_z, ap, ◌∙◌, arith}
 use Rattle.std.proofs.lemmas.Bool.{le-ltb}
 use Rattle.std.proofs.lemmas.Int.{ints}
 use Rattle.hpf_num.specs.Runs.{IsSmall}
 use Rattle.hpf_num.proofs.Members.{place_stands, small_at, near_tested, near_none}
 use Rattle.hpf_num.proofs.runs.Runs.has_near.Goals as goal
+use Rattle.hpf_num.specs.Limits.{integer_limit}
 
-lowered : (i : ℤ) (n : ℕ) → IsSmall i → n ≤ 2 ^ 31 - 1 → FitsSigned w64 (to_z w64 (of_z w64 i) -ℤ to_z w64 n)
+lowered : (i : ℤ) (n : ℕ) → IsSmall i → n ≤ integer_limit → FitsSigned w64 (to_z w64 (of_z w64 i) -ℤ to_z w64 n)
 lowered i n h k = omega (arith, ints)
 
-lowered_is : (i : ℤ) (n : ℕ) → IsSmall i → n ≤ 2 ^ 31 - 1 → (to_z w64 (of_z w64 i) -ℤ to_z w64 n) ≡ (i -ℤ pos n)
+lowered_is : (i : ℤ) (n : ℕ) → IsSmall i → n ≤ integer_limit → (to_z w64 (of_z w64 i) -ℤ to_z w64 n) ≡ (i -ℤ pos n)
 lowered_is i n h k = omega (arith, ints)
 
-raised_is : (i : ℤ) (n : ℕ) → IsSmall i → n ≤ 2 ^ 31 - 1 → to_z w64 (of_z w64 (to_z w64 (of_z w64 i) +ℤ to_z w64 n)) ≡ (i +ℤ pos n)
+raised_is : (i : ℤ) (n : ℕ) → IsSmall i → n ≤ integer_limit → to_z w64 (of_z w64 (to_z w64 (of_z w64 i) +ℤ to_z w64 n)) ≡ (i +ℤ pos n)
 raised_is i n h k = omega (arith, ints)
 
 pub returns-then-below-len : goal.returns-then-below-len

@@ -7,4 +7,4 @@ use Rattle.hpf_own.proofs.base_dims.BaseDims.push.Goals as goal
 pub invariant_of-self-2 : goal.invariant_of-self-2
 invariant_of-self-2 c =
     let P : BaseDim → Type 0 = λ d. HasOwners d.cut in
-    subst (λ (ds : List BaseDim). All P ds) (sym c.in_ok-push.ensures.items) (All-push P c.self.inside.dims.items c.args.dim c.self.invariant c.procs.ensures)
+    subst (λ (ds : List BaseDim). All P ds) (sym c.in_ok-push.ensures.items) (All-push P c.self.inside.dims.items c.args.dim c.self.invariant c.procs.ensures.owners)

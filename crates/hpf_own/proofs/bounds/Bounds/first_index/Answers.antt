@@ -1,4 +1,4 @@
-use Rattle.std.proofs.Common.{true, length, get_or, set, w64, of_z, to_z, to_z-of_z, SFits, rules, ◌∙◌}
+use Rattle.std.proofs.Common.{true, get_or, w64, to_z-of_z, SFits, rules, ◌∙◌}
 use Rattle.std.proofs.lemmas.List.{get_or_default, length-set}
 use Rattle.hpf_own.specs.KeptLists.{no_run}
 use Rattle.hpf_own.proofs.Walking.{lows, first_place, first_lies, place_is, written_more, written_all}

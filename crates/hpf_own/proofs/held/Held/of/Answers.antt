@@ -7,6 +7,7 @@ use Rattle.hpf_own.specs.Space.{choices}
 use Rattle.hpf_own.specs.Held.{AreSides, Part}
 use Rattle.hpf_own.proofs.Sides.{no_choice, empty_choice}
 use Rattle.hpf_own.proofs.held.Held.of.Goals as goal
+use Rattle.hpf_own.specs.Limits.{dimension_limit}
 
 pub invariant_of-result : goal.invariant_of-result
 invariant_of-result c =
@@ -16,7 +17,7 @@ invariant_of-result c =
     record { some = c.requires.some; short = c.requires.short; members = subst (All AreMembers) value members; all_or_none = inl some; few = c.requires.few }
 
 -- what no member is in
-none_sides : (n : ℕ) → 1 ≤ n → n ≤ 7 → (let none : List ℤ = [] in AreSides (replicate n none))
+none_sides : (n : ℕ) → 1 ≤ n → n ≤ dimension_limit → (let none : List ℤ = [] in AreSides (replicate n none))
 none_sides n some short =
     let none : List ℤ = [] in
     let long = length-replicate n none in

@@ -36,7 +36,7 @@ all_sides m lists d n sides rank end so_far = sides_all (near m.shadow lists) m.
 pub of-requires-clause-short : goal.of-requires-clause-short
 of-requires-clause-short c =
     let m = c.args.self.now in
-    let is : IsMapping m = subst IsMapping c.self.view_is c.self.invariant in
+    let is : IsMapping m = subst IsMapping c.self.view_is c.self.invariant.mapping in
     let lists = c.sides-side-items.result.now in
     let rank : length lists ≡ length m.bounds = sym c.sides-side-items.ensures.rank ∙ ap (λ (p : Part). p.rank) c.in_ok-owned.ensures in
     let all = all_sides m lists c.loop-d.d (length lists) c.loop-d.sides.items rank c.loop-d-test.false c.loop-d.invariant in
@@ -45,7 +45,7 @@ of-requires-clause-short c =
 pub of-requires-clause-few : goal.of-requires-clause-few
 of-requires-clause-few c =
     let m = c.args.self.now in
-    let is : IsMapping m = subst IsMapping c.self.view_is c.self.invariant in
+    let is : IsMapping m = subst IsMapping c.self.view_is c.self.invariant.mapping in
     let lists = c.sides-side-items.result.now in
     let rank : length lists ≡ length m.bounds = sym c.sides-side-items.ensures.rank ∙ ap (λ (p : Part). p.rank) c.in_ok-owned.ensures in
     let all = all_sides m lists c.loop-d.d (length lists) c.loop-d.sides.items rank c.loop-d-test.false c.loop-d.invariant in
@@ -54,7 +54,7 @@ of-requires-clause-few c =
 pub of-requires-clause-some : goal.of-requires-clause-some
 of-requires-clause-some c =
     let m = c.args.self.now in
-    let is : IsMapping m = subst IsMapping c.self.view_is c.self.invariant in
+    let is : IsMapping m = subst IsMapping c.self.view_is c.self.invariant.mapping in
     let lists = c.sides-side-items.result.now in
     let rank : length lists ≡ length m.bounds = sym c.sides-side-items.ensures.rank ∙ ap (λ (p : Part). p.rank) c.in_ok-owned.ensures in
     let all = all_sides m lists c.loop-d.d (length lists) c.loop-d.sides.items rank c.loop-d-test.false c.loop-d.invariant in
@@ -63,7 +63,7 @@ of-requires-clause-some c =
 pub returns : goal.returns
 returns c =
     let m = c.args.self.now in
-    let is : IsMapping m = subst IsMapping c.self.view_is c.self.invariant in
+    let is : IsMapping m = subst IsMapping c.self.view_is c.self.invariant.mapping in
     let lists = c.sides-side-items.result.now in
     let rank : length lists ≡ length m.bounds = sym c.sides-side-items.ensures.rank ∙ ap (λ (p : Part). p.rank) c.in_ok-owned.ensures in
     let every : choices lists ≡ filter (owns m c.args.p) (indices m.bounds) = sym c.sides-side-items.ensures.every ∙ ap (λ (p : Part). p.indices) c.in_ok-owned.ensures in

@@ -29,11 +29,11 @@ loop-e-preserved c =
 
 pub returns-clause-owners : goal.returns-clause-owners
 returns-clause-owners c =
-    let m : IsMapping c.args.self.now = subst IsMapping c.self.view_is c.self.invariant in
+    let m : IsMapping c.args.self.now = subst IsMapping c.self.view_is c.self.invariant.mapping in
     let same = c.as_slice-size-items.ensures.same ∙ ap (λ (m : PlainMapping). m.procs) c.self.view_is in
     so_far_all c.args.self.now c.args.index.now c.as_slice-size-items.result.now c.loop-e.e c.loop-e.stride c.loop-e.set m same (omega arith) c.loop-e.invariant
 
 pub returns-clause-few : goal.returns-clause-few
 returns-clause-few c =
-    let m : IsMapping c.args.self.now = subst IsMapping c.self.view_is c.self.invariant in
+    let m : IsMapping c.args.self.now = subst IsMapping c.self.view_is c.self.invariant.mapping in
     m.procs.few

@@ -15,7 +15,7 @@ owns_is m items p index b is below same h =
 
 pub returns-then-not-holds : goal.returns-then-not-holds
 returns-then-not-holds c =
-    let m : IsMapping c.args.self.now = subst IsMapping c.self.view_is c.self.invariant in
+    let m : IsMapping c.args.self.now = subst IsMapping c.self.view_is c.self.invariant.mapping in
     let sizes = c.as_slice-size-items.result.now in
     let same = c.as_slice-size-items.ensures.same ∙ ap (λ (m : PlainMapping). m.procs) c.self.view_is in
     let step = passes-drop sizes (holds c.args.self.now.dims c.args.index.now) c.loop-e.e c.loop-e.rest (omega arith) in
@@ -31,7 +31,7 @@ loop-e-preserved c =
 
 pub returns : goal.returns
 returns c =
-    let m : IsMapping c.args.self.now = subst IsMapping c.self.view_is c.self.invariant in
+    let m : IsMapping c.args.self.now = subst IsMapping c.self.view_is c.self.invariant.mapping in
     let sizes = c.as_slice-size-items.result.now in
     let same = c.as_slice-size-items.ensures.same ∙ ap (λ (m : PlainMapping). m.procs) c.self.view_is in
     let end : drop c.loop-e.e sizes ≡ [] = nil_from_length _ (omega (arith, length-drop c.loop-e.e sizes)) in

@@ -4,8 +4,9 @@ use Rattle.hpf_own.specs.Owners.{holds}
 use Rattle.hpf_own.proofs.Sets.{repeat_more, repeat_less}
 use Rattle.hpf_own.proofs.mapping.Mapping.repeated.Goals as goal
 use Rattle.hpf_own.proofs.mapping.Mapping.repeated.Goals.{then-holds, else-holds}
+use Rattle.hpf_dist.specs.Limits.{processor_limit}
 
-few : (c size stride : ℕ) → c < size → stride * size ≤ 64 → (c + 1) * stride ≤ 64
+few : (c size stride : ℕ) → c < size → stride * size ≤ processor_limit → (c + 1) * stride ≤ processor_limit
 few c size stride h k = omega (arith, mul-le-mul_left stride (let z : c + 1 ≤ size = omega arith in z), mul_comm stride (c + 1))
 
 pub loop-c-preserved : goal.loop-c-preserved

@@ -8,7 +8,7 @@ loop-e-init c = led_none c.args.self.now c.args.p c.as_slice-size-items.result.n
 
 pub returns-then-not-leads : goal.returns-then-not-leads
 returns-then-not-leads c =
-    let m : IsMapping c.args.self.now = subst IsMapping c.self.view_is c.self.invariant in
+    let m : IsMapping c.args.self.now = subst IsMapping c.self.view_is c.self.invariant.mapping in
     let same = c.as_slice-size-items.ensures.same ∙ ap (λ (m : PlainMapping). m.procs) c.self.view_is in
     led_stop c.args.self.now c.args.p c.as_slice-size-items.result.now c.loop-e.e c.loop-e.rest m c.requires same (omega arith) c.loop-e.invariant (λ l. absurd (let z = c.if-not-leads.ensures.1 l in search rules))
 
@@ -18,6 +18,6 @@ loop-e-preserved c =
 
 pub returns : goal.returns
 returns c =
-    let m : IsMapping c.args.self.now = subst IsMapping c.self.view_is c.self.invariant in
+    let m : IsMapping c.args.self.now = subst IsMapping c.self.view_is c.self.invariant.mapping in
     let same = c.as_slice-size-items.ensures.same ∙ ap (λ (m : PlainMapping). m.procs) c.self.view_is in
     led_all c.args.self.now c.args.p c.as_slice-size-items.result.now c.loop-e.e c.loop-e.rest m c.requires same (omega arith) c.loop-e.invariant

@@ -1,7 +1,6 @@
-use Rattle.std.proofs.Common.{◌≡◌, ◌-◌, List, ℕ, length, sym, ap, ◌∙◌, subst, refl, arith, to_z-of_z, FitsSigned, w64}
+use Rattle.std.proofs.Common.{◌≡◌, List, ℕ, length, sym, ap, ◌∙◌, subst, refl, arith, to_z-of_z, FitsSigned, w64}
 use Rattle.std.proofs.lemmas.Int.{ints}
 use Rattle.hpf_own.specs.Lists.{IsPerm}
-use Rattle.hpf_own.specs.Space.{LiesIn}
 use Rattle.hpf_own.specs.Correspondence.{source, ExtentsAgree, corresponding}
 use Rattle.hpf_own.proofs.Indices.{LiesIn-length}
 use Rattle.hpf_own.proofs.Correspondence.{entry_within, source_below, can_move, moved_more, moved_value, moved_all, corresponding_within}

@@ -1,0 +1,5 @@
+use Rattle.hpf_report.proofs.Gathering.{all_left}
+use Rattle.hpf_report.proofs.part.part_line.Goals as goal
+
+pub returns : goal.returns
+returns g c = all_left c.in_ok-gather_part.ensures c.new-gathered.ensures c.give.ensures
