@@ -4,3 +4,4 @@ pub mod Prints
 pub mod Does
 pub mod Causes
 pub mod Promises
+pub mod Runs

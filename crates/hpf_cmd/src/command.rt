@@ -12,8 +12,9 @@ use std::alloc::Global;
 
 /// Does what the words ask for, on one thread. `show MAP` writes the canonical text of the map to `out`, `check MAP`
 /// how much it declares, `owners MAP NAME` the owners of each element of an array, and `local MAP NAME --proc N` what
-/// a processor holds of it. `make MAP --frames N` writes a file of frames made from a seed to `out`. `run MAP` reads frames from `frames`, writes the frames that leave the pipeline of the
-/// map to `out`, and then the marks of its processors to `notes`. Always returns.
+/// a processor holds of it. `make MAP --frames N` writes a file of frames made from a seed to `out`. `run MAP` reads
+/// frames from `frames`, writes the frames that leave the pipeline of the map to `out`, and then the marks of its
+/// processors to `notes`. Always returns.
 pub fn command_one<L: Loader, S: Source, K: Sink, N: Sink>(
     alloc: Global,
     words: &[String],
