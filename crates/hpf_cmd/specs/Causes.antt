@@ -21,7 +21,8 @@ pub record NoneRises {S K N : Type 0} (o : Outside S K N) (was now : Moment S K 
   pub notes : TellsNotes deed → ¬ Rose (o.notes was.notes).faults (o.notes now.notes).faults
 
 -- Nothing that the deed uses can fail: no read did, out is sure to take the text, and notes the lines.
-pub record IsSafe {S K N : Type 0} (o : Outside S K N) (was now : Moment S K N) (deed : Deed) (text lines : List ℕ) : Type 0 where
+pub record IsSafe {S K N : Type 0} (o : Outside S K N) (was now : Moment S K N) (deed : Deed)
+    (text lines : List ℕ) : Type 0 where
   pub frames : ReadsFrames deed → ¬ Rose (o.frames was.frames).faults (o.frames now.frames).faults
   pub out : IsSure (o.out was.out) (length text)
   pub notes : TellsNotes deed → IsSure (o.notes was.notes) (length lines)

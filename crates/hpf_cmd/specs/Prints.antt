@@ -8,7 +8,8 @@ use Rattle.hpf_stream.specs.Outside.{Outside, Moment, Stays, Gives, Flushes, Fai
 
 -- What came of a text for out, and of lines for notes behind it: both were given; or out failed within the text, and
 -- notes wasn't touched; or there are lines, and notes failed within them, when all of the text was given and flushed.
-pub data Tells {S K N : Type 0} (o : Outside S K N) (was now : Moment S K N) (text lines : List ℕ) (end : Status) : Type 0 where
+pub data Tells {S K N : Type 0} (o : Outside S K N) (was now : Moment S K N) (text lines : List ℕ)
+    (end : Status) : Type 0 where
   All : end ≡ status.Ok → Flushes (o.out was.out) (o.out now.out) text
       → Gives (o.notes was.notes) (o.notes now.notes) lines
       → Tells o was now text lines end
@@ -18,7 +19,8 @@ pub data Tells {S K N : Type 0} (o : Outside S K N) (was now : Moment S K N) (te
       → Fails (o.notes was.notes) (o.notes now.notes) lines → Tells o was now text lines end
 
 -- The text and the lines were told so, and nothing else was touched: no frames, and no notes where there are no lines.
-pub record Prints {S K N : Type 0} (o : Outside S K N) (was now : Moment S K N) (text lines : List ℕ) (end : Status) : Type 0 where
+pub record Prints {S K N : Type 0} (o : Outside S K N) (was now : Moment S K N) (text lines : List ℕ)
+    (end : Status) : Type 0 where
   pub told : Tells o was now text lines end
   pub unread : now.frames ≡ was.frames
   pub quiet : lines ≡ [] → now.notes ≡ was.notes
@@ -37,7 +39,8 @@ pub data Makes (before after : SinkState) (text : List ℕ) (end : Status) : Typ
   RunsOut : end ≡ status.OutOfMemory → Begins before after text → Makes before after text end
 
 -- The text was made so, and nothing else was touched.
-pub record Composes {S K N : Type 0} (o : Outside S K N) (was now : Moment S K N) (text : List ℕ) (end : Status) : Type 0 where
+pub record Composes {S K N : Type 0} (o : Outside S K N) (was now : Moment S K N) (text : List ℕ)
+    (end : Status) : Type 0 where
   pub made : Makes (o.out was.out) (o.out now.out) text end
   pub unread : now.frames ≡ was.frames
   pub quiet : now.notes ≡ was.notes

@@ -21,8 +21,8 @@ use hpf_status::Status;
 use hpf_syntax::{Items, print};
 use std::alloc::Global;
 
-/// Does what is asked for: prints a text to `out`, makes frames for it, or runs frames from `frames` to `out` and tells their
-/// marks to `notes`.
+/// Does what is asked for: prints a text to `out`, makes frames for it, or runs frames from `frames` to `out` and tells
+/// their marks to `notes`.
 pub(crate) fn perform<S: Source, K: Sink, N: Sink>(
     alloc: Global,
     request: Request,

@@ -13,7 +13,8 @@ use hpf_stream::Stop;
 
 /// Flushes the sink behind a text that was given to it, where it was given whole, and tells how that ended.
 pub(crate) fn flushed<K: Sink>(given: Result<(), Failed>, out: &mut K) -> Status
-    ensures { (before : SinkState) (text : List ℕ) → Writes before (K.state out.old) given text
+    ensures { (before : SinkState) (text : List ℕ)
+        → Writes before (K.state out.old) given text
         → Shows before (K.state out.new) text result }
 {
     ended(flush_behind(given, out))
