@@ -1,68 +1,14 @@
 //! Calls over ends in memory that are sure to do their part: such a call never stops before its end, but for want of memory.
 
-ghost use Rattle.std.specs.Prelude.{◌≡◌, ◌<◌, List, ℕ, [], length, IfOk};
-ghost use Rattle.hpf_io.specs.Counts.{last_count};
-ghost use Rattle.hpf_io.specs.States.{IsSure};
-ghost use Rattle.hpf_request.specs.Deed.{Deed, IsDue};
-ghost use Rattle.hpf_request.specs.Order.{IsGranted};
-ghost use Rattle.hpf_request.specs.Words.{spelled};
-ghost use Rattle.hpf_status.specs.Ends.{OrMemory};
-
 use crate::answer::{push_given, push_status};
 use crate::block::Block;
 use crate::due::due_of;
 use crate::given::Given;
 use crate::scope::{Named, Scope};
 use anyhow::{Context, Result};
-use hpf_cmd::{Status, command_one, one_asking};
-use hpf_io::{Loader, MemLoader, MemSink, Sink, Source, SureSink, SureSource};
+use hpf_cmd::{Status, command_one};
+use hpf_io::{MemLoader, MemSink, SureSink, SureSource};
 use std::alloc::{AllocError, Global};
-
-/// Calls with a loader of which no call fails, a source that never fails, and sinks of which no call fails. Where the loader
-/// holds the map, and the sinks have room for what is due, all is done.
-fn call_with_room(
-    alloc: Global,
-    words: &[String],
-    texts: &mut MemLoader,
-    frames: &mut SureSource,
-    out: &mut MemSink,
-    notes: &mut MemSink,
-) -> Status
-    requires loads { texts.old.calls.fails ≡ [] }
-    requires told { texts.old.faults < last_count }
-    ensures { (deed : Deed) (text lines : List ℕ)
-        → IsGranted (spelled words.now) (⟦<MemLoader as Loader>⟧.state texts.old) deed
-        → IsDue (⟦<SureSource as Source>⟧.state frames.old) (⟦<SureSource as Source>⟧.state frames.new)
-        deed text lines
-        → IsSure (⟦<MemSink as Sink>⟧.state out.old) (length text)
-        → IsSure (⟦<MemSink as Sink>⟧.state notes.old) (length lines)
-        → OrMemory result (result ≡ Status.Ok) }
-{
-    one_asking();
-    command_one(alloc, words, texts, frames, out, notes)
-}
-
-/// The same, where out is a sink that never fails, whatever its room.
-fn call_into_sure_sink(
-    alloc: Global,
-    words: &[String],
-    texts: &mut MemLoader,
-    frames: &mut SureSource,
-    out: &mut SureSink,
-    notes: &mut MemSink,
-) -> Status
-    requires loads { texts.old.calls.fails ≡ [] }
-    requires told { texts.old.faults < last_count }
-    ensures { (deed : Deed) (text lines : List ℕ)
-        → IsGranted (spelled words.now) (⟦<MemLoader as Loader>⟧.state texts.old) deed
-        → IsDue (⟦<SureSource as Source>⟧.state frames.old) (⟦<SureSource as Source>⟧.state frames.new)
-        deed text lines
-        → IsSure (⟦<MemSink as Sink>⟧.state notes.old) (length lines)
-        → OrMemory result (result ≡ Status.Ok) }
-{
-    one_asking();
-    command_one(alloc, words, texts, frames, out, notes)
-}
 
 /// What came of a row over such ends and isn't due: nothing, where it is right.
 pub fn sure_differences<'a>(alloc: Global, row: &Block<'a>, texts: &[Named<'a>]) -> Result<String> {
@@ -85,7 +31,7 @@ fn ends_of(alloc: Global, given: &Given<'_>) -> Result<String> {
     let mut text = String::new(alloc);
     let mut out = MemSink::new(alloc, given.out.room, given.out.step.get(), &[])?;
     let mut notes = notes_of(alloc, given)?;
-    let status = call_with_room(
+    let status = command_one(
         alloc,
         &given.words,
         &mut loader(alloc, &given.files)?,
@@ -97,7 +43,7 @@ fn ends_of(alloc: Global, given: &Given<'_>) -> Result<String> {
 
     let mut out = SureSink::new(alloc, given.out.room)?;
     let mut notes = notes_of(alloc, given)?;
-    let status = call_into_sure_sink(
+    let status = command_one(
         alloc,
         &given.words,
         &mut loader(alloc, &given.files)?,
@@ -111,10 +57,7 @@ fn ends_of(alloc: Global, given: &Given<'_>) -> Result<String> {
 }
 
 /// A loader that holds these files, of which no call fails.
-fn loader(alloc: Global, files: &[Named<'_>]) -> Result<MemLoader, AllocError>
-    ensures loads { IfOk result (λ texts. texts.calls.fails ≡ []) }
-    ensures told { IfOk result (λ texts. texts.faults < last_count) }
-{
+fn loader(alloc: Global, files: &[Named<'_>]) -> Result<MemLoader, AllocError> {
     let mut texts = MemLoader::new(alloc, &[])?;
     for file in files {
         texts.add(alloc, file.name, &file.bytes)?;
