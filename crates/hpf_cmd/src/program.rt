@@ -12,7 +12,7 @@ use std::alloc::Global;
 
 /// Does what the words ask for, writes the line that tells its end to `notes`, and gives the number that the program
 /// ends with. Words that couldn't be read are a faulty command line, or want of memory. Always returns.
-pub fn program<L: Loader, S: Source, K: Sink, N: Sink>(
+pub fn run_program<L: Loader, S: Source, K: Sink, N: Sink>(
     alloc: Global,
     words: Result<Vec<String>, WordsError>,
     texts: &mut L,

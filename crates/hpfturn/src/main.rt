@@ -6,16 +6,16 @@ ghost use Rattle.std.specs.IoError.{error_kind};
 ghost use Rattle.hpf_status.specs.Statuses.{words_status};
 ghost use Rattle.hpf_status.specs.declared.status.Status.{Status};
 
-use hpf_cmd::{WordsError, program};
+use hpf_cmd::{WordsError, run_program};
 use hpf_io::{FileLoader, StdSink, StdSource};
 use std::alloc::AllocError;
 use std::io::ErrorKind;
 use std::process::ExitCode;
 use std::{env, io};
 
-/// Ends with the number that the program gives.
+/// Ends with the number that `run_program` gives.
 fn main(rt: HostRuntime) -> ExitCode {
-    let number = program(
+    let number = run_program(
         rt.alloc(),
         words_of(&rt),
         &mut FileLoader::new(&rt),
