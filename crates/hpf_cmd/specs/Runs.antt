@@ -18,10 +18,10 @@ Called spelled l o (Ok words) before after was now end = Promises l o (spelled w
 Called spelled l o (Err e) before after was now end =
     (end ≡ words_status e) × (after ≡ before) × Untouched was now
 
--- The call was made, and then the line that tells its end was written to notes, as far as notes took it. The number is
--- that of the end.
+-- The call was made, and then the line that tells its end was written to notes, as far as notes took it. The answer is
+-- the number of the end.
 pub record Runs {W L S K N : Type 0} (spelled : W → List (List ℕ)) (l : L → LoaderState) (o : Outside S K N)
-    (words : Result W WordsError) (before after : L) (was now : Moment S K N) (number : ℕ) : Type 0 where
+    (words : Result W WordsError) (before after : L) (was now : Moment S K N) (answer : ℕ) : Type 0 where
   pub end : Status
   pub called : Moment S K N
   pub call : Called spelled l o words before after was called end
@@ -29,4 +29,4 @@ pub record Runs {W L S K N : Type 0} (spelled : W → List (List ℕ)) (l : L �
   pub out : now.out ≡ called.out
   pub told : (result : Result (Unit {0}) Failed)
       × Writes (o.notes called.notes) (o.notes now.notes) result (status_text end)
-  pub number : number ≡ status_number end
+  pub number : answer ≡ status_number end
