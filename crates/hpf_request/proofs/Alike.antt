@@ -1,12 +1,12 @@
 -- Two mappings of one array have the same owners, and so all that is told of them is the same.
-use Rattle.std.proofs.Common.{◌≡◌, ℕ, zero, suc, ◌+◌, ◌-◌, ◌<◌, ◌≤◌, nat_lt, Bool, true, false, ◌&&◌, ◌||◌, cond, List, [], ◌∷◌, ◌++◌, length, map, get_or, ℤ, Option, Some, None, IsTrue, refl, sym, ap, ◌∙◌, arith, subst}
-use Rattle.std.specs.List.{All, filter, range_with_len, list_any, flat_map}
+use Rattle.std.proofs.Common.{◌≡◌, ℕ, zero, suc, ◌+◌, ◌<◌, ◌≤◌, nat_lt, Bool, true, false, ◌&&◌, ◌||◌, cond, List, [], ◌∷◌, ◌++◌, length, map, get_or, ℤ, Option, Some, None, IsTrue, refl, sym, ap, ◌∙◌, arith, subst}
+use Rattle.std.specs.List.{filter, range_with_len, list_any, flat_map}
 use Rattle.std.proofs.lemmas.Bool.Decides.{nat_tests}
 use Rattle.hpf_lex.specs.Name.{is_name}
 use Rattle.hpf_map.specs.Layers.{names_of}
 use Rattle.hpf_map.specs.Ownership.{IsMappingOf}
 use Rattle.hpf_map.specs.Shadows.{shadow_at}
-use Rattle.hpf_map.specs.Program.{PlainProgram, Maps, MapsBy, ultimate, statement_for, array_place, mapping_in}
+use Rattle.hpf_map.specs.Program.{Maps, MapsBy, ultimate, statement_for, array_place, mapping_in}
 use Rattle.hpf_num.specs.declared.run.Run.{Run}
 use Rattle.hpf_own.specs.declared.widths.Width.{Width}
 use Rattle.hpf_own.specs.Held.{owned_part, held_part, is_held, is_around}
@@ -18,8 +18,8 @@ use Rattle.hpf_report.specs.OwnersText.{owners_line, owners_text, owner_text}
 use Rattle.hpf_report.specs.IndexText.{index_text}
 use Rattle.hpf_syntax.specs.Plain.{ItemTree}
 use Rattle.hpf_status.specs.declared.status.Status.TheVariants as status
-use Rattle.hpf_request.specs.Named.{IsNamed, mapping_named}
-use Rattle.hpf_request.specs.Order.{Verdict, Granted, Denied, owners_verdict, local_verdict}
+use Rattle.hpf_request.specs.Named.{IsNamed}
+use Rattle.hpf_request.specs.Order.{Granted, Denied, owners_verdict, local_verdict}
 use Rattle.hpf_request.specs.Deed.{Print}
 
 -- what is known of the element order: it lists nothing but indices

@@ -1,5 +1,5 @@
 -- What the calls answer, from what came of the ones below.
-use Rattle.std.proofs.Common.{◌≡◌, ◌≢◌, ◌+◌, ◌<◌, ◌≤◌, nat_le, nat_lt, Bool, true, false, ℕ, arith, List, [], Some, None, Result, Ok, Err, IfOk, IfErr, length, refl, sym, ap, ◌∙◌, subst, map}
+use Rattle.std.proofs.Common.{◌≡◌, ◌≢◌, ◌+◌, ◌<◌, ◌≤◌, nat_le, nat_lt, Bool, true, false, ℕ, arith, List, [], Some, None, Result, Ok, Err, IfOk, IfErr, length, refl, sym, ap, ◌∙◌, subst}
 use Rattle.std.proofs.lemmas.Bool.Decides.{nat_tests}
 use Rattle.hpf_io.specs.Files.{Files, HasFront}
 use Rattle.hpf_io.specs.States.{LoaderState}
@@ -22,7 +22,7 @@ use Rattle.hpf_status.specs.declared.status.Status.TheVariants as status
 use Rattle.hpf_status.specs.Statuses.{refusal_status, text_status}
 use Rattle.hpf_syntax.specs.Canonical.{canonical}
 use Rattle.hpf_syntax.specs.Parsed.{Says, IsFaultOf}
-use Rattle.hpf_syntax.specs.Plain.{ItemTree, item_tree}
+use Rattle.hpf_syntax.specs.Plain.{ItemTree}
 use Rattle.hpf_syntax.specs.declared.tree.Item.{Item}
 use Rattle.hpf_request.specs.declared.request.Request.{Request}
 use Rattle.hpf_request.specs.declared.words.Action.{Action}
@@ -35,6 +35,7 @@ use Rattle.hpf_request.specs.Named.{IsNamed, IsUnnamed, Broken, NoArray}
 use Rattle.hpf_request.specs.Order.{Verdict, Denied, Granted, Judges, Faulty, Refused, Passed, Comes, Decides, Order, OfText, IsLoaded, refused_by, most_elements, run_verdict, local_verdict}
 use Rattle.hpf_request.specs.Pipeline.{flow_of}
 use Rattle.hpf_request.specs.Request.{deed_of, IsMet}
+use Rattle.hpf_request.specs.Stages.{has_stage, run_refusal}
 use Rattle.hpf_request.specs.Words.{Asks}
 
 -- ---- denied, granted
@@ -89,15 +90,22 @@ judged_as asked done text items (Err end) is says d =
 
 -- ---- forms
 
+-- statements that have a STAGE line are refused for it, and others for what they mean
+pub staged : (items : List ItemTree) (end : Status) → has_stage items ≡ true → end ≡ refusal_status not_built → Decides action.Run items (Denied end)
+staged items end some why text says = Refused items says not_built (rw some refl) (ap Denied why)
+
+pub unstaged : (items : List ItemTree) → has_stage items ≡ false → run_refusal items ≡ refusal needed.Pipeline items
+unstaged items none = rw none refl
+
 -- a form with too many elements, and one that runs
-pub too_long : (items : List ItemTree) (form : Form) (end : Status) → refusal needed.Pipeline items ≡ None → IsFormOf items form → most_elements < elements form.extents → end ≡ refusal_status not_built → Decides action.Run items (Denied end)
+pub too_long : (items : List ItemTree) (form : Form) (end : Status) → run_refusal items ≡ None → IsFormOf items form → most_elements < elements form.extents → end ≡ refusal_status not_built → Decides action.Run items (Denied end)
 too_long items form end none is long why = passed action.Run items (Denied end) none (form, is, by (nat_le (elements form.extents) most_elements) refl)
   where
     by : (b : Bool) → nat_le (elements form.extents) most_elements ≡ b → Denied end ≡ run_verdict form
     by true few = absurd (grind (arith, nat_tests, few, long))
     by false many = rw many (ap Denied why)
 
-pub ran : (items : List ItemTree) (form : Form) → refusal needed.Pipeline items ≡ None → IsFormOf items form → elements form.extents ≤ most_elements → Decides action.Run items (Granted (Stream (flow_of form)))
+pub ran : (items : List ItemTree) (form : Form) → run_refusal items ≡ None → IsFormOf items form → elements form.extents ≤ most_elements → Decides action.Run items (Granted (Stream (flow_of form)))
 ran items form none is few = passed action.Run items (Granted (Stream (flow_of form))) none (form, is, by (nat_le (elements form.extents) most_elements) refl)
   where
     by : (b : Bool) → nat_le (elements form.extents) most_elements ≡ b → Granted (Stream (flow_of form)) ≡ run_verdict form

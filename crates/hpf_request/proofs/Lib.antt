@@ -9,3 +9,4 @@ pub mod Formed
 pub mod Filed
 pub mod Verdicts
 pub mod Decisions
+mod Seen

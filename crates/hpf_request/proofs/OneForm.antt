@@ -1,16 +1,14 @@
 -- Statements are of one form at most.
-use Rattle.std.proofs.Common.{◌≡◌, ℕ, zero, suc, ◌+◌, ◌-◌, ◌<◌, ◌≤◌, Bool, true, false, cond, List, [], ◌∷◌, length, map, get_or, ℤ, Option, Some, None, IsTrue, refl, sym, ap, ◌∙◌, arith, subst}
+use Rattle.std.proofs.Common.{◌≡◌, ℕ, ◌-◌, ◌<◌, List, [], ◌∷◌, length, map, get_or, Some, None, sym, ap, ◌∙◌, arith, subst}
 use Rattle.std.specs.List.{All, filter, range_with_len}
 use Rattle.std.specs.Prelude.{slice_get}
 use Rattle.hpf_map.specs.declared.program.Stage.{Stage}
-use Rattle.hpf_map.specs.Layers.{names_of}
-use Rattle.hpf_map.specs.Ownership.{IsMappingOf}
-use Rattle.hpf_map.specs.Program.{Maps, MapsBy, ultimate, statement_for, array_place}
+use Rattle.hpf_map.specs.Program.{Maps, array_place}
 use Rattle.hpf_num.specs.declared.run.Run.{Run}
 use Rattle.hpf_num.specs.Run.{extent}
 use Rattle.hpf_own.specs.Mapping.{PlainMapping}
 use Rattle.hpf_own.specs.Held.{is_held}
-use Rattle.hpf_own.specs.Space.{indices, product, LiesIn}
+use Rattle.hpf_own.specs.Space.{indices, product}
 use Rattle.hpf_syntax.specs.Plain.{ItemTree}
 use Rattle.hpf_request.specs.Form.{Form, IsFormOf, form_of, places_of, holds_place}
 use Rattle.hpf_request.proofs.Alike.{OnlyIndices, IsSame, alike, same_held, map_in_range, filter_in_range}

@@ -1,18 +1,11 @@
 -- The order of tests comes to one verdict.
-use Rattle.std.proofs.Common.{◌≡◌, ◌+◌, nat_le, nat_lt, Bool, true, false, ℕ, List, take, [], Option, Some, None, inl, inr, sym, ap, ◌∙◌, subst, cond}
+use Rattle.std.proofs.Common.{◌≡◌, ◌+◌, ℕ, List, take, Some, None, inl, inr, sym, ap, ◌∙◌, subst}
 use Rattle.hpf_io.specs.Files.{Files, HasFront}
 use Rattle.hpf_io.specs.States.{LoaderState}
-use Rattle.hpf_frame.specs.FrameFile.{elements}
 use Rattle.hpf_lex.specs.declared.refusal.MapRefusal.{MapRefusal}
 use Rattle.hpf_lex.specs.declared.token.Token.{Token}
 use Rattle.hpf_lex.specs.Statement.{max_text}
 use Rattle.hpf_lex.specs.Text.{HasTokens, HasFault}
-use Rattle.hpf_map.specs.Built.{not_built}
-use Rattle.hpf_own.specs.Held.{owned_part, held_part}
-use Rattle.hpf_own.specs.Mapping.{PlainMapping}
-use Rattle.hpf_own.specs.Space.{product}
-use Rattle.hpf_report.specs.LocalText.{local_text}
-use Rattle.hpf_status.specs.declared.status.Status.TheVariants as status
 use Rattle.hpf_status.specs.Statuses.{refusal_status}
 use Rattle.hpf_syntax.specs.FirstFault.{Spells, SpellsShortly, IsRefusalOf}
 use Rattle.hpf_syntax.specs.Parsed.{Says, IsFaultOf}
@@ -21,10 +14,7 @@ use Rattle.hpf_words.specs.declared.asked.Asked.{Asked}
 use Rattle.hpf_words.specs.Words.{AsksFor}
 use Rattle.hpf_request.specs.declared.words.Action.{Action}
 use Rattle.hpf_request.specs.declared.words.Action.TheVariants as action
-use Rattle.hpf_request.specs.Deed.{Compose, Print, Stream}
-use Rattle.hpf_request.specs.Form.{Form}
-use Rattle.hpf_request.specs.Order.{Verdict, Denied, Granted, Judges, Faulty, Refused, Passed, Comes, Order, NoAction, NotBuilt, OfText, refused_by, run_verdict, make_verdict}
-use Rattle.hpf_request.specs.Pipeline.{flow_of}
+use Rattle.hpf_request.specs.Order.{Verdict, Denied, Judges, Faulty, Refused, Passed, Comes, Order, NoAction, NotBuilt, OfText, refused_by, run_verdict, make_verdict}
 use Rattle.hpf_request.specs.Words.{Asks, built}
 use Rattle.hpf_request.proofs.Alike.{OnlyIndices, one_owners, one_local}
 use Rattle.hpf_request.proofs.OneForm.{one_form}

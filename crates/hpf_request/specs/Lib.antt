@@ -1,5 +1,6 @@
 pub mod Words
 pub mod Form
+pub mod Stages
 pub mod Named
 pub mod CountsText
 pub mod Part

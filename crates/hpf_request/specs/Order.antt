@@ -31,6 +31,7 @@ use Rattle.hpf_request.specs.Deed.{Deed, Print, Compose, Stream}
 use Rattle.hpf_request.specs.Form.{Form, IsFormOf}
 use Rattle.hpf_request.specs.Named.{IsNamed}
 use Rattle.hpf_request.specs.Pipeline.{flow_of}
+use Rattle.hpf_request.specs.Stages.{run_refusal}
 use Rattle.hpf_request.specs.Words.{Asks, built}
 
 -- what is to be done, or the status by which it is refused
@@ -44,7 +45,7 @@ refused_by action.Show items = None
 refused_by action.Check items = refusal Mapping items
 refused_by (action.Owners name) items = refusal Mapping items
 refused_by (action.Local name p) items = refusal Mapping items
-refused_by action.Run items = refusal Pipeline items
+refused_by action.Run items = run_refusal items
 refused_by (action.Make frames seed) items = refusal Pipeline items
 
 -- the most elements that an array has whose frames run

@@ -11,6 +11,7 @@ mod named;
 mod part;
 mod parts;
 mod request;
+mod stages;
 mod words;
 
 pub use form::Form;

@@ -1,6 +1,6 @@
 //! What is asked for, together with what its map means.
 
-ghost use Rattle.std.specs.Prelude.{◌≡◌, ◌≢◌, ◌⊎◌, ℕ, List, map, None, Err, IfOk, IfErr};
+ghost use Rattle.std.specs.Prelude.{◌≡◌, ◌≢◌, ◌⊎◌, ℕ, List, map, false, None, Err, IfOk, IfErr};
 ghost use Rattle.hpf_status.specs.declared.status.Status.{Status};
 ghost use Rattle.hpf_syntax.specs.Plain.{item_tree};
 ghost use Rattle.hpf_words.specs.declared.asked.Asked.{Asked};
@@ -11,11 +11,13 @@ ghost use Rattle.hpf_request.specs.Denials.{IsDenial};
 ghost use Rattle.hpf_request.specs.Loads.{LoadFails, LoadsNoFault, KeepsFiles};
 ghost use Rattle.hpf_request.specs.Order.{Order, Granted, Denied};
 ghost use Rattle.hpf_request.specs.Request.{deed_of, IsMet};
+ghost use Rattle.hpf_request.specs.Stages.{has_stage};
 ghost use Rattle.hpf_request.specs.Words.{built, spelled};
 
 use crate::form::{Form, all_of, extents_of, form_of};
 use crate::map::items_of;
 use crate::named::mapping_of;
+use crate::stages::has_stage;
 use crate::words::{Action, command_of};
 use hpf_io::Loader;
 use hpf_lex::{MAX_TEXT, MapRefusal};
@@ -53,7 +55,7 @@ pub enum Request {
 /// The most elements that an array has whose frames run.
 const MOST_ELEMENTS: u64 = 65536;
 
-/// What is answered to a text that is well written, and whose array has more elements.
+/// What is answered to a text that is well written, and whose array has more elements or that has a STAGE line.
 const NOT_BUILT: MapRefusal = MapRefusal {
     code: 9,
     line: 1,
@@ -141,6 +143,17 @@ fn local_of(
 
 /// What statements come to whose frames are to run.
 fn run_of(alloc: Global, items: &Items) -> Result<Request, Status>
+    ensures { Decided Action.Run (map item_tree items.now) result }
+{
+    if has_stage(items.as_slice()) {
+        return Err(Status::from(NOT_BUILT));
+    }
+    run_of_one(alloc, items)
+}
+
+/// What statements of one stage come to whose frames are to run.
+fn run_of_one(alloc: Global, items: &Items) -> Result<Request, Status>
+    requires { has_stage (map item_tree items.now) ≡ false }
     ensures { Decided Action.Run (map item_tree items.now) result }
 {
     let program = resolve(alloc, items, Need::Pipeline)?;

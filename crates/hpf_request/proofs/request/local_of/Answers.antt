@@ -1,4 +1,4 @@
-use Rattle.std.proofs.Common.{map, refl, ap, arith, None, Some, ◌∙◌}
+use Rattle.std.proofs.Common.{map, refl, ap, arith, None}
 use Rattle.std.proofs.lemmas.Result.{err_from_is_err_and}
 use Rattle.hpf_syntax.specs.Plain.{item_tree}
 use Rattle.hpf_request.specs.declared.words.Action.TheVariants as action

@@ -5,7 +5,7 @@ use Rattle.hpf_num.specs.Run.{extent}
 use Rattle.hpf_map.specs.declared.program.Need.TheVariants.{Pipeline}
 use Rattle.hpf_syntax.specs.Plain.{item_tree}
 use Rattle.hpf_request.specs.declared.words.Action.TheVariants.{Make}
-use Rattle.hpf_request.specs.Form.{Form, form_of}
+use Rattle.hpf_request.specs.Form.{form_of}
 use Rattle.hpf_request.proofs.Formed.{extents_are, form_of_first}
 use Rattle.hpf_request.proofs.Staged.{some_stage}
 use Rattle.hpf_request.proofs.Decisions.{denied_as, granted_as, no_memory, of_text, unresolved, made}

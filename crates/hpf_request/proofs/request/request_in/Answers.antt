@@ -1,4 +1,3 @@
-use Rattle.std.proofs.Common.{refl}
 use Rattle.std.proofs.lemmas.Result.{err_from_is_err_and}
 use Rattle.hpf_request.proofs.Decisions.{denied_as, granted_as, of_text, faulty, shown, judged_as}
 use Rattle.hpf_request.proofs.request.request_in.Goals as goal
