@@ -1,5 +1,5 @@
 -- What follows from how a request ended: whose count rose, and that nothing gives up by itself.
-use Rattle.std.proofs.Common.{◌≡◌, ◌≢◌, ◌⊎◌, inl, inr, Ok, Err, ℕ, ℤ, Option, None, List, length, [], ◌∷◌, Some, refl, sym, ap, ◌∙◌, subst}
+use Rattle.std.proofs.Common.{◌≡◌, ◌≢◌, ◌⊎◌, inl, inr, Ok, Err, ℕ, ℤ, None, List, length, [], ◌∷◌, Some, refl, sym, ap, ◌∙◌, subst}
 use Rattle.hpf_io.specs.States.{LoaderState, SourceState, SinkState, IsSure}
 use Rattle.hpf_io.specs.Files.{Files}
 use Rattle.hpf_frame.specs.FrameFile.{Shape}
@@ -15,16 +15,15 @@ use Rattle.hpf_request.specs.Order.{Verdict, Granted, Denied, Order, IsGranted}
 use Rattle.hpf_status.specs.declared.status.Status.{Status}
 use Rattle.hpf_status.specs.declared.status.Status.TheVariants as status
 use Rattle.hpf_status.specs.Ends.{IsAnswered, OrMemory, IsRefusal}
-use Rattle.hpf_stream.specs.declared.stop.Stop.{Stop}
 use Rattle.hpf_stream.specs.declared.stop.Stop.TheVariants.{Input, Output}
 use Rattle.hpf_stream.specs.Ends.{End}
 use Rattle.hpf_stream.specs.Flow.{Flow, whole}
-use Rattle.hpf_stream.specs.Outside.{Outside, Moment, Stays, FramesStay, OutStays, NotesStay, NoFault, IsSafeFor, Flushes, Fails}
-use Rattle.hpf_stream.specs.Streams.{Streams, Counts, HeldFile, HeldNoFile, IsRefused}
+use Rattle.hpf_stream.specs.Outside.{Outside, Moment, FramesStay, OutStays, NotesStay}
+use Rattle.hpf_stream.specs.Streams.{Counts, HeldFile, HeldNoFile}
 use Rattle.hpf_cmd.specs.Causes.{Causes, NoneRises, IsSafe}
 use Rattle.hpf_cmd.specs.Does.{Does, Follows, Untouched}
 use Rattle.hpf_cmd.specs.Ended.{end_status, IsOfDeed}
-use Rattle.hpf_cmd.specs.Prints.{Tells, All, OutFails, NotesFail, Prints, Composes, Makes, Made, Unmade, RunsOut}
+use Rattle.hpf_cmd.specs.Prints.{Tells, All, OutFails, NotesFail, Makes, Made, Unmade, RunsOut}
 
 -- ---- counts
 

@@ -7,7 +7,7 @@ use Rattle.hpf_io.specs.Loaders.{LoaderInMemory, load_fails, file_in, files_told
 use Rattle.hpf_io.specs.States.{LoaderState}
 use Rattle.hpf_request.specs.declared.words.Action.{Action}
 use Rattle.hpf_request.specs.Deed.{Deed}
-use Rattle.hpf_request.specs.Order.{Verdict, Granted, Denied, Order, NoAction, NotBuilt, OfText, IsLoaded, IsGranted}
+use Rattle.hpf_request.specs.Order.{Granted, Order, NoAction, NotBuilt, OfText, IsGranted}
 use Rattle.hpf_request.specs.Words.{Asks}
 
 -- a loader in memory whose count is below the last value tells its files

@@ -1,4 +1,4 @@
-use Rattle.std.proofs.Common.{◌≡◌, ◌≢◌, ap, Err, refl, inl, inr}
+use Rattle.std.proofs.Common.{ap, Err, refl, inl, inr}
 use Rattle.hpf_cmd.proofs.Completed.{granted_keeps, denied_keeps}
 use Rattle.hpf_cmd.proofs.command.command_one.Goals as goal
 

@@ -1,6 +1,6 @@
-use Rattle.std.proofs.Common.{◌≡◌, ℕ, ◌+◌, ◌≤◌, List, [], ◌++◌, length, length-append, length-take-le, take, Ok, Err, append_assoc, append-nil, arith, sym, ap, ◌∙◌, refl}
+use Rattle.std.proofs.Common.{◌≡◌, ℕ, List, [], ◌++◌, length, length-append, length-take-le, take, append_assoc, append-nil, arith, sym, ap, ◌∙◌}
 use Rattle.std.proofs.lemmas.Result.{err_from_is_err_and}
-use Rattle.hpf_io.specs.Writes.{Writes, Writes-then, Writes-cut, Writes-nothing}
+use Rattle.hpf_io.specs.Writes.{Writes-then, Writes-cut, Writes-nothing}
 use Rattle.hpf_cmd.proofs.make.give_all.Goals as goal
 
 pub loop-count-init : goal.loop-count-init
