@@ -1,6 +1,6 @@
 -- The program of a text without a breach.
 use Rattle.std.proofs.Common.{◌≡◌, ℕ, zero, suc, ◌+◌, ◌-◌, ◌<◌, ◌≤◌, Bool, true, false, cond, List, [], ◌∷◌, ◌++◌, length, map, get_or, take, All, Option, Some, None, inl, inr, refl, sym, ap, subst, ◌∙◌, arith}
-use Rattle.std.specs.Prelude.{slice_get, slice_set, option_and_then, is_some, replicate, fold, drop, Result, Ok, Err, IfOk}
+use Rattle.std.specs.Prelude.{slice_get, slice_set, option_and_then, option_to_list, is_some, replicate, fold, drop, Result, Ok, Err, IfOk}
 use Rattle.std.specs.Fn.{iterate}
 use Rattle.std.specs.List.{AllZip}
 use Rattle.std.proofs.lemmas.Bool.{false≢true, cases_lt}
@@ -9,8 +9,9 @@ use Rattle.std.proofs.lemmas.List.Elements.{All-nil, All-cons, Contains-get_or}
 use Rattle.hpf_own.specs.declared.image.Image.{Image}
 use Rattle.hpf_own.specs.Mapping.{PlainMapping}
 use Rattle.hpf_syntax.specs.declared.tree.Spot.{Spot}
-use Rattle.hpf_syntax.specs.Plain.{ItemTree}
+use Rattle.hpf_syntax.specs.Plain.{ItemTree, ImplicitNone, Variables, Constants, Processors, Template, Distribute, Align, Shadow, Input, Stage as StageLine}
 use Rattle.hpf_map.specs.declared.landings.Landing.{Landing}
+use Rattle.hpf_map.specs.declared.lines.Line.{Line}
 use Rattle.hpf_map.specs.declared.name.Meaning.{Meaning}
 use Rattle.hpf_map.specs.declared.name.Meaning.TheVariants as meaning
 use Rattle.hpf_map.specs.declared.name.Name.{Name}
@@ -23,17 +24,19 @@ use Rattle.hpf_map.specs.declared.way.Use.{Use}
 use Rattle.hpf_map.specs.declared.way.Way.{Way}
 use Rattle.hpf_map.specs.declared.way.Way.TheVariants.{Unmapped, Distributed, Aligned}
 use Rattle.hpf_lex.specs.declared.refusal.MapRefusal.{MapRefusal}
+use Rattle.hpf_map.specs.Declarations.{threaded, names_after}
 use Rattle.hpf_map.specs.Found.{least_with}
 use Rattle.hpf_map.specs.Known.{is_named, known}
 use Rattle.hpf_map.specs.Direct.{direct_images}
 use Rattle.hpf_map.specs.Landings.{IsSettled, AreClear, AreLandings, Lands, Here, Onward}
 use Rattle.hpf_map.specs.Layers.{names_of}
+use Rattle.hpf_map.specs.Lines.{statement_line, all_lines}
 use Rattle.hpf_map.specs.Mapped.{CanMap}
 use Rattle.hpf_map.specs.Mappings.{array_at, MapsFor, MapsAt, AreMappings, CanMapAll, IsMappedLine, IsStageOf}
 use Rattle.hpf_map.specs.Ownership.{IsMappingOf}
 use Rattle.hpf_map.specs.Paired.{inner, at_place}
 use Rattle.hpf_map.specs.Pipeline.{lines, first_spot_breach, pipeline_breaches}
-use Rattle.hpf_map.specs.Program.{distributing, ultimate, statement_for, array_place, MapsBy, Maps, counts_of, IsProgram}
+use Rattle.hpf_map.specs.Program.{distributing, ultimate, statement_for, array_place, MapsBy, Maps, counts_of, HasLine, IsProgram}
 use Rattle.hpf_map.specs.Refusal.{all_breaches}
 use Rattle.hpf_map.specs.Spaces.{fit, used_as}
 use Rattle.hpf_map.specs.Uses.{suits}
@@ -184,13 +187,37 @@ module _ (items : List ItemTree) (mappings : List (Option PlainMapping)) (are : 
         let maps = are.each p.0 (let size = are.size in let below = a.below in omega (arith, below, size)) in
         subst (λ o. Maps items (array_place items word) (option_and_then (λ n. at_place n mappings) o)) (sym p.1) (maps_word items word p.0 (at_place p.0 mappings) is maps)
 
-stage_arrays : (items : List ItemTree) (spots : List Spot) (stages : List Stage) → AllZip (IsStageOf items) spots stages → map (λ stage. stage.array) stages ≡ map (λ spot. spot.word) spots
+-- the arrays of the lines, as the statements have them and as they are read
+said_arrays : (items : List ItemTree) (names : List Name) → map (λ line. line.array) (threaded names_after (λ before item. option_to_list (statement_line before item)) names items) ≡ lines items
+said_arrays [] names = refl
+said_arrays (Input at name buffers op ∷ items) names = ap (λ l. name ∷ l) (said_arrays items (names_after names (Input at name buffers op)))
+said_arrays (StageLine at name permute buffers op ∷ items) names = ap (λ l. name ∷ l) (said_arrays items (names_after names (StageLine at name permute buffers op)))
+said_arrays (ImplicitNone at ∷ items) names = said_arrays items (names_after names (ImplicitNone at))
+said_arrays (Variables common list ∷ items) names = said_arrays items (names_after names (Variables common list))
+said_arrays (Constants common list ∷ items) names = said_arrays items (names_after names (Constants common list))
+said_arrays (Processors list ∷ items) names = said_arrays items (names_after names (Processors list))
+said_arrays (Template list ∷ items) names = said_arrays items (names_after names (Template list))
+said_arrays (Distribute list formats onto ∷ items) names = said_arrays items (names_after names (Distribute list formats onto))
+said_arrays (Align list sources base subs ∷ items) names = said_arrays items (names_after names (Align list sources base subs))
+said_arrays (Shadow list widths ∷ items) names = said_arrays items (names_after names (Shadow list widths))
+
+pub line_arrays : (items : List ItemTree) → map (λ line. line.array) (all_lines items) ≡ lines items
+unfolding all_lines
+line_arrays items = said_arrays items []
+
+stage_arrays : (items : List ItemTree) (said : List Line) (stages : List Stage) → AllZip (IsStageOf items) said stages → map (λ stage. stage.array) stages ≡ map (λ spot. spot.word) (map (λ line. line.array) said)
 stage_arrays items [] [] h = refl
 stage_arrays items [] (s ∷ stages) h = absurd h
-stage_arrays items (x ∷ spots) [] h = absurd h
-stage_arrays items (x ∷ spots) (s ∷ stages) h = rw (h.0.array, stage_arrays items spots stages h.1) refl
+stage_arrays items (x ∷ said) [] h = absurd h
+stage_arrays items (x ∷ said) (s ∷ stages) h = rw (h.0.array, stage_arrays items said stages h.1) refl
 
-stage_maps : (items : List ItemTree) (spots : List Spot) (stages : List Stage) → AllZip (IsStageOf items) spots stages → All (λ stage. Maps items (array_place items stage.array) (Some stage.mapping)) stages
+stage_lines : (items : List ItemTree) (said : List Line) (stages : List Stage) → AllZip (IsStageOf items) said stages → AllZip HasLine said stages
+stage_lines items [] [] h = tt
+stage_lines items [] (s ∷ stages) h = absurd h
+stage_lines items (x ∷ said) [] h = absurd h
+stage_lines items (x ∷ said) (s ∷ stages) h = (h.0.line, stage_lines items said stages h.1)
+
+stage_maps : (items : List ItemTree) (spots : List Line) (stages : List Stage) → AllZip (IsStageOf items) spots stages → All (λ stage. Maps items (array_place items stage.array) (Some stage.mapping)) stages
 stage_maps items [] [] h = All-nil (λ stage. Maps items (array_place items stage.array) (Some stage.mapping))
 stage_maps items [] (s ∷ stages) h = absurd h
 stage_maps items (x ∷ spots) [] h = absurd h
@@ -199,13 +226,14 @@ stage_maps items (x ∷ spots) (s ∷ stages) h =
     (subst (λ w. Maps items (array_place items w) (Some s.mapping)) (sym h.0.array) h.0.mapping) (stage_maps items spots stages h.1)
 
 pub program_is : (items : List ItemTree) (names : List Name) (mappings : List (Option PlainMapping)) (stages : List Stage) (counts : Counts) → names ≡ names_of items
-    → AreMappings items mappings → AllZip (IsStageOf items) (lines items) stages → counts ≡ counts_of items
+    → AreMappings items mappings → AllZip (IsStageOf items) (all_lines items) stages → counts ≡ counts_of items
     → IsProgram items (record { names = names; mappings = mappings; stages = stages; counts = counts })
 program_is items names mappings stages counts are_names are zip count = record {
   counts = count;
   mappings = λ word. subst (λ ns. Maps items (array_place items word) (option_and_then (λ n. at_place n mappings) (place_of ns word))) (sym are_names) (word_maps items mappings are word);
-  arrays = stage_arrays items (lines items) stages zip;
-  stages = stage_maps items (lines items) stages zip;
+  arrays = stage_arrays items (all_lines items) stages zip ∙ ap (map (λ spot. spot.word)) (line_arrays items);
+  stages = stage_maps items (all_lines items) stages zip;
+  lines = stage_lines items (all_lines items) stages zip;
 }
 
 -- ---- landings of a text without a breach
@@ -354,7 +382,7 @@ zip_more R [] (z ∷ ys) x y h r = absurd h
 zip_more R (w ∷ xs) [] x y h r = absurd h
 zip_more R (w ∷ xs) (z ∷ ys) x y h r = (h.0, zip_more R xs ys x y h.1 r)
 
-pub stages_more : (items : List ItemTree) (lines : List Spot) (stages : List Stage) (i : ℕ) (line : Spot) (stage : Stage) → i < length lines → line ≡ get_or lines i line
+pub stages_more : (items : List ItemTree) (lines : List Line) (stages : List Stage) (i : ℕ) (line : Line) (stage : Stage) → i < length lines → line ≡ get_or lines i line
     → AllZip (IsStageOf items) (take i lines) stages → IsStageOf items line stage → AllZip (IsStageOf items) (take (i + 1) lines) (stages ++ stage ∷ [])
 stages_more items lines stages i line stage below is before new =
     subst (λ l. AllZip (IsStageOf items) l (stages ++ stage ∷ [])) (ap (λ z. take i lines ++ z ∷ []) is ∙ sym (take_more lines i line below)) (zip_more (IsStageOf items) (take i lines) stages line stage before new)

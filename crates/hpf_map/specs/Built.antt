@@ -1,5 +1,5 @@
 -- The forms of statements that are built. This project builds the others later.
-use Rattle.std.specs.Prelude.{List, Bool, true, false, ◌&&◌, is_none}
+use Rattle.std.specs.Prelude.{List, Bool, true, false}
 use Rattle.std.specs.List.{list_all}
 use Rattle.hpf_lex.specs.declared.refusal.MapRefusal.{MapRefusal}
 use Rattle.hpf_syntax.specs.Plain.{OpTree, Plain, Add, Mul, Prefix, Stencil, ItemTree, ImplicitNone, Variables, Constants, Processors, Template, Distribute, Align, Shadow, Input, Stage}
@@ -11,7 +11,7 @@ is_plain (Mul at e) = false
 is_plain (Prefix at e) = false
 is_plain (Stencil at e weights) = false
 
--- neither a stage, buffers nor an operation
+-- no operation
 abbrev pub is_built : ItemTree → Bool
 is_built (ImplicitNone at) = true
 is_built (Variables common names) = true
@@ -21,8 +21,8 @@ is_built (Template names) = true
 is_built (Distribute names formats onto) = true
 is_built (Align names sources base subs) = true
 is_built (Shadow names widths) = true
-is_built (Input at name buffers op) = is_none buffers && is_plain op
-is_built (Stage at name permute buffers op) = false
+is_built (Input at name buffers op) = is_plain op
+is_built (Stage at name permute buffers op) = is_plain op
 
 abbrev pub are_built : List ItemTree → Bool
 are_built items = list_all is_built items

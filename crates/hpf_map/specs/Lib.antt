@@ -15,10 +15,12 @@ pub mod Linear
 pub mod Dummies
 pub mod Subscripts
 pub mod Expressions
+pub mod Lines
 pub mod ShadowWidths
 pub mod Spaces
 pub mod Alignments
 pub mod Distributions
+pub mod Stages
 pub mod Arrangements
 pub mod Widths
 pub mod Formats

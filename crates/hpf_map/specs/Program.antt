@@ -1,7 +1,11 @@
 -- What a mapping text without a breach gives: the mappings of its arrays, its stages and its counts.
-use Rattle.std.specs.Prelude.{ℕ, ◌≡◌, List, length, map, filter, min, All, Bool, true, false, Option, Some, None, option_and_then}
+use Rattle.std.specs.Prelude.{ℕ, ◌≡◌, ◌≤◌, List, length, map, filter, min, All, Bool, true, false, Option, Some, None, option_and_then, ℤ, pos, unsigned_abs}
+use Rattle.std.specs.List.{AllZip, range_with_len}
 use Rattle.hpf_own.specs.Mapping.{PlainMapping}
 use Rattle.hpf_syntax.specs.Plain.{ItemTree}
+use Rattle.hpf_map.specs.declared.lines.Entries.{Entries}
+use Rattle.hpf_map.specs.declared.lines.Line.{Line}
+use Rattle.hpf_map.specs.declared.lines.Number.{Number}
 use Rattle.hpf_map.specs.declared.name.Meaning.{Meaning}
 use Rattle.hpf_map.specs.declared.name.Meaning.TheVariants as meaning
 use Rattle.hpf_map.specs.declared.name.Name.{Name}
@@ -13,9 +17,11 @@ use Rattle.hpf_map.specs.declared.role.Role.TheVariants.{Array}
 use Rattle.hpf_map.specs.declared.way.Way.{Way}
 use Rattle.hpf_map.specs.declared.way.Way.TheVariants as way
 use Rattle.hpf_map.specs.Layers.{names_of}
+use Rattle.hpf_map.specs.Lines.{all_lines}
 use Rattle.hpf_map.specs.Ownership.{IsMappingOf}
 use Rattle.hpf_map.specs.Paired.{at_place}
 use Rattle.hpf_map.specs.Pipeline.{lines}
+use Rattle.hpf_map.specs.Stages.{max_buffers}
 use Rattle.hpf_map.specs.Ways.{ways_of, way_at, walk_end, place_of, used_place}
 
 -- ---- counts
@@ -86,9 +92,27 @@ module _ (items : List ItemTree) where
   Maps None m = m ≡ None
   Maps (Some n) m = MapsBy n (statement_for n) m
 
+-- the dimensions of a stage of this rank are those of PERMUTE, or without it all in order
+abbrev pub HasDims : Option Entries → ℕ → List ℕ → Type 0
+HasDims None rank perm = perm ≡ range_with_len 1 rank
+HasDims (Some entries) rank perm = (values : List ℤ) × (entries.values ≡ Some values) × (perm ≡ map unsigned_abs values)
+
+-- its buffers are as many as BUFFERS says, or without it two
+abbrev pub HasBuffers : Option Number → ℕ → Type 0
+HasBuffers None buffers = buffers ≡ 2
+HasBuffers (Some n) buffers = n.value ≡ Some (pos buffers)
+
+-- a stage has the dimensions and the buffers that its line says, of which there are at least one and at most eight
+pub record HasLine (line : Line) (stage : Stage) : Type 0 where
+  pub dims : HasDims line.permute (length stage.mapping.bounds) stage.perm
+  pub buffers : HasBuffers line.buffers stage.buffers
+  pub some : 1 ≤ stage.buffers
+  pub few : stage.buffers ≤ max_buffers
+
 -- A program is that of a text.
 pub record IsProgram (items : List ItemTree) (p : PlainProgram) : Type 0 where
   pub counts : p.counts ≡ counts_of items
   pub mappings : (word : List ℕ) → Maps items (array_place items word) (mapping_in p word)
   pub arrays : map (λ stage. stage.array) p.stages ≡ map (λ spot. spot.word) (lines items)
   pub stages : All (λ stage. Maps items (array_place items stage.array) (Some stage.mapping)) p.stages
+  pub lines : AllZip HasLine (all_lines items) p.stages

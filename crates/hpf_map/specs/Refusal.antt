@@ -16,12 +16,14 @@ use Rattle.hpf_map.specs.Paired.{each_with}
 use Rattle.hpf_map.specs.Pipeline.{pipeline_breaches}
 use Rattle.hpf_map.specs.Program.{PlainProgram, IsProgram}
 use Rattle.hpf_map.specs.Shadows.{shadows_breaches}
+use Rattle.hpf_map.specs.Stages.{stages_breaches}
 use Rattle.hpf_map.specs.Subscripts.{all_subscripts}
 use Rattle.hpf_map.specs.Ways.{ways_of, mapped_twice_breaches, first_uses, cycle_breaches}
 use Rattle.hpf_map.specs.Widths.{all_widths}
 
 -- all breaches in a text, for what is needed: in names, values, shapes, lists and widths, in alignments, in distributions and
--- their formats, of names that are mapped twice or on a cycle, in the lines of the pipeline, and of names that are shadowed
+-- their formats, of names that are mapped twice or on a cycle, in the lines of the pipeline, of names that are shadowed, and of lines beside
+-- those in front of them
 unfoldable pub all_breaches : Need → List ItemTree → List MapRefusal
 all_breaches need items =
     breaches_in items
@@ -32,6 +34,7 @@ all_breaches need items =
     ++ flat_map (cycle_breaches (ways_of (names_of items) items)) (first_uses (names_of items) items)
     ++ pipeline_breaches need (names_of items) items
     ++ shadows_breaches (names_of items) items
+    ++ stages_breaches (names_of items) items
 
 -- the refusal of a text: that it has a form that isn't built, or else the breach that comes first
 unfoldable pub refusal : Need → List ItemTree → Option MapRefusal

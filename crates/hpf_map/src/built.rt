@@ -19,8 +19,7 @@ fn is_built(item: &Item) -> bool
         | Item::Distribute { .. }
         | Item::Align { .. }
         | Item::Shadow { .. } => true,
-        Item::Input { buffers, op, .. } => buffers.is_none() && matches!(op, OpItem::Plain),
-        Item::Stage { .. } => false,
+        Item::Input { op, .. } | Item::Stage { op, .. } => matches!(op, OpItem::Plain),
     }
 }
 

@@ -15,6 +15,7 @@ use crate::pipeline::test_pipeline;
 use crate::program::Need;
 use crate::shadows::first_shadows;
 use crate::sound::sound_names;
+use crate::stages::test_lines;
 use crate::statements::{Statements, read_statements};
 use crate::ways::{Ways, read_ways};
 use hpf_syntax::Item;
@@ -69,6 +70,7 @@ pub(crate) fn check_items(
         breaches,
     )?;
     let first_shadows = first_shadows(alloc, &statements.names, items, breaches)?;
+    test_lines(&statements.names, statements.lines.as_slice(), breaches);
     Ok(Checked {
         statements,
         ways: mapped.ways,

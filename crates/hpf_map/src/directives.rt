@@ -1,6 +1,6 @@
 //! Expressions in directives and in pipeline lines.
 
-ghost use Rattle.std.specs.Prelude.{◌≡◌, List, Some, map, option_map, IfOk, OnOk};
+ghost use Rattle.std.specs.Prelude.{◌≡◌, ◌++◌, List, Some, None, true, false, map, option_map, IfOk, OnOk};
 ghost use Rattle.std.specs.List.{flat_map};
 ghost use Rattle.hpf_syntax.specs.Plain.{Tree, tree, op_tree, sub_tree, item_tree};
 ghost use Rattle.hpf_lex.specs.declared.refusal.MapRefusal.{MapRefusal};
@@ -8,6 +8,7 @@ ghost use Rattle.hpf_map.specs.declared.name.Name.{Name};
 ghost use Rattle.hpf_map.specs.Expressions.{list_breaches, operation_breaches, subscript_name_breaches, align_expression_breaches, directive_breaches};
 ghost use Rattle.hpf_map.specs.Found.{least_with};
 ghost use Rattle.hpf_map.specs.Hidden.{hides};
+ghost use Rattle.hpf_map.specs.Lines.{entries_of, number_of, statement_line};
 ghost use Rattle.hpf_map.specs.ShadowWidths.{statement_shadow};
 ghost use Rattle.hpf_map.specs.Subscripts.{is_empty, dummy_breaches, subscripts_of, statement_subscripts};
 ghost use Rattle.hpf_map.specs.Uses.{dummies};
@@ -19,11 +20,12 @@ use crate::dummies::dummies_of;
 use crate::dummy_places::test_dummies;
 use crate::expressions::{expression, test_subscripts};
 use crate::format_widths::{FormatWidths, read_widths};
+use crate::lines::{Line, read_number, read_permute};
 use crate::scope::Scope;
 use crate::shadow_widths::{ShadowWidths, read_shadow};
 use crate::subscripts::{Subscripts, said};
 use hpf_lex::Word;
-use hpf_syntax::{Expr, Item, List, OpItem, SourceItem, SubItem};
+use hpf_syntax::{Expr, Item, List, OpItem, SourceItem, Spot, SubItem};
 use std::alloc::{AllocError, Global};
 use std::collections::BTreeSet;
 
@@ -59,28 +61,6 @@ fn test_each<P: Part>(scope: &Scope, parts: &[P], breaches: &mut Breaches)
 {
     for part in parts {
         part.test(scope, breaches);
-    }
-}
-
-/// The breaches in an expression, if there is one.
-#[tactic(auto, using(crate::proofs::FoundLemmas::least_with_laws))]
-fn test_maybe(scope: &Scope, e: &Option<Expr>, breaches: &mut Breaches)
-    ensures { breaches.new ≡ least_with breaches.old
-        (maybe_expression_breaches scope.now (option_map tree e.now)) }
-{
-    if let Some(e) = e {
-        e.test(scope, breaches);
-    }
-}
-
-/// The breaches in a list of expressions, if there is one.
-#[tactic(auto, using(crate::proofs::FoundLemmas::least_with_laws))]
-fn test_list(scope: &Scope, list: &Option<List<Expr>>, breaches: &mut Breaches)
-    ensures { breaches.new ≡ least_with breaches.old
-        (list_breaches scope.now (option_map (map tree) list.now)) }
-{
-    if let Some(list) = list {
-        test_each(scope, list.as_slice(), breaches);
     }
 }
 
@@ -176,6 +156,66 @@ fn read_align(
     read_subscripts(alloc, scope, &dummies, sources, subs, breaches)
 }
 
+/// What an INPUT line says, and the breaches in its expressions.
+#[tactic(auto, using(crate::proofs::FoundLemmas::least_with_laws))]
+fn read_input(
+    scope: &Scope,
+    array: &Spot,
+    buffers: &Option<Expr>,
+    op: &OpItem,
+    breaches: &mut Breaches,
+) -> Line
+    ensures said { result ≡ record {
+      follows = false;
+      array = array.now;
+      permute = None;
+      buffers = option_map (number_of scope.now) (option_map tree buffers.now);
+    } }
+    ensures breaches { breaches.new ≡ least_with breaches.old
+        (maybe_expression_breaches scope.now (option_map tree buffers.now) ++ operation_breaches scope.now (op_tree op.now)) }
+{
+    let buffers = read_number(scope, buffers, breaches);
+    test_operation(scope, op, breaches);
+    Line {
+        follows: false,
+        array: *array,
+        permute: None,
+        buffers,
+    }
+}
+
+/// What a STAGE line says, and the breaches in its expressions.
+#[tactic(auto, using(crate::proofs::FoundLemmas::least_with_laws))]
+fn read_stage(
+    alloc: Global,
+    scope: &Scope,
+    array: &Spot,
+    permute: &Option<List<Expr>>,
+    buffers: &Option<Expr>,
+    op: &OpItem,
+    breaches: &mut Breaches,
+) -> Result<Line, AllocError>
+    ensures said { IfOk result (λ line. line ≡ record {
+      follows = true;
+      array = array.now;
+      permute = option_map (entries_of scope.now) (option_map (map tree) permute.now);
+      buffers = option_map (number_of scope.now) (option_map tree buffers.now);
+    }) }
+    ensures breaches { OnOk result (breaches.new ≡ least_with breaches.old
+        (list_breaches scope.now (option_map (map tree) permute.now)
+        ++ maybe_expression_breaches scope.now (option_map tree buffers.now) ++ operation_breaches scope.now (op_tree op.now))) }
+{
+    let permute = read_permute(alloc, scope, permute, breaches)?;
+    let buffers = read_number(scope, buffers, breaches);
+    test_operation(scope, op, breaches);
+    Ok(Line {
+        follows: true,
+        array: *array,
+        permute,
+        buffers,
+    })
+}
+
 /// What the expressions of a directive say, where they are free.
 #[derive(Drop)]
 pub(crate) struct Said {
@@ -185,6 +225,8 @@ pub(crate) struct Said {
     pub widths: Option<FormatWidths>,
     /// The widths of a SHADOW.
     pub shadow: Option<ShadowWidths>,
+    /// An INPUT or a STAGE line.
+    pub line: Option<Line>,
 }
 
 /// What the expressions of a directive say, and the breaches in those of a directive or of a pipeline line.
@@ -198,6 +240,7 @@ pub(crate) fn read_directive(
     ensures subscripts { IfOk result (λ s. s.subscripts ≡ statement_subscripts scope.now (item_tree item.now)) }
     ensures widths { IfOk result (λ s. s.widths ≡ statement_widths scope.now (item_tree item.now)) }
     ensures shadow { IfOk result (λ s. s.shadow ≡ statement_shadow scope.now (item_tree item.now)) }
+    ensures line { IfOk result (λ s. s.line ≡ statement_line scope.now (item_tree item.now)) }
     ensures breaches { OnOk result (breaches.new ≡ least_with breaches.old
         (directive_breaches scope.now (item_tree item.now))) }
 {
@@ -207,6 +250,7 @@ pub(crate) fn read_directive(
                 subscripts: None,
                 widths: Some(read_widths(alloc, scope, formats.as_slice(), breaches)?),
                 shadow: None,
+                line: None,
             });
         }
         Item::Align { sources, subs, .. } => {
@@ -214,6 +258,7 @@ pub(crate) fn read_directive(
                 subscripts: read_align(alloc, scope, sources, subs, breaches)?,
                 widths: None,
                 shadow: None,
+                line: None,
             });
         }
         Item::Shadow { widths, .. } => {
@@ -221,21 +266,32 @@ pub(crate) fn read_directive(
                 subscripts: None,
                 widths: None,
                 shadow: read_shadow(alloc, scope, widths.as_slice(), breaches)?,
+                line: None,
             });
         }
-        Item::Input { buffers, op, .. } => {
-            test_maybe(scope, buffers, breaches);
-            test_operation(scope, op, breaches);
+        Item::Input {
+            name, buffers, op, ..
+        } => {
+            return Ok(Said {
+                subscripts: None,
+                widths: None,
+                shadow: None,
+                line: Some(read_input(scope, name, buffers, op, breaches)),
+            });
         }
         Item::Stage {
+            name,
             permute,
             buffers,
             op,
             ..
         } => {
-            test_list(scope, permute, breaches);
-            test_maybe(scope, buffers, breaches);
-            test_operation(scope, op, breaches);
+            return Ok(Said {
+                subscripts: None,
+                widths: None,
+                shadow: None,
+                line: Some(read_stage(alloc, scope, name, permute, buffers, op, breaches)?),
+            });
         }
         Item::ImplicitNone(_)
         | Item::Variables { .. }
@@ -247,5 +303,6 @@ pub(crate) fn read_directive(
         subscripts: None,
         widths: None,
         shadow: None,
+        line: None,
     })
 }

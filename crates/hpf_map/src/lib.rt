@@ -9,7 +9,7 @@
 //!     `shadow_widths`).
 //!   - `alignments` and `distributions` (`arrangements`): directives, each by itself; `dealing` and `formats`: what each format
 //!     of a DISTRIBUTE asks for; `ways` and `cycles`: how each name is mapped, and chains.
-//!   - `pipeline`: the lines of a pipeline; `shadows`: names in SHADOW, and the first one of each array.
+//!   - `pipeline`: the lines of a pipeline; `stages`: each beside those in front of it (`lines` is what they say); `shadows`: names in SHADOW, and the first one of each array.
 //! - `direct`: the images of each array in its base; `landings`: those in its ultimate base, composed once an array
 //!   (`plain`, `compose`).
 //! - `cuts`: how each dimension of a base is divided; `mapped`, `mappings`: the mapping of an array, and those of all, with
@@ -43,6 +43,7 @@ mod gathered;
 mod given;
 mod landings;
 mod linear;
+mod lines;
 mod lists;
 mod mapped;
 mod mappings;
@@ -61,6 +62,7 @@ mod shadows;
 mod shapes;
 mod sound;
 mod spaces;
+mod stages;
 mod statements;
 mod subscript;
 mod subscripts;

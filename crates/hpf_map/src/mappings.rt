@@ -1,13 +1,17 @@
 //! The mappings of all arrays, and the stages of a pipeline.
 
-ghost use Rattle.std.specs.Prelude.{◌≡◌, ◌<◌, length, map, All, IfOk, is_some};
+ghost use Rattle.std.specs.Prelude.{◌≡◌, ◌<◌, ◌≤◌, length, map, unsigned_abs, All, IfOk, is_some};
 ghost use Rattle.std.specs.List.{AllZip};
 ghost use Rattle.hpf_syntax.specs.Plain.{item_tree};
-ghost use Rattle.hpf_map.specs.Mappings.{array_at, MapsAt, AreMappings, CanMapAll, IsMappedLine, IsStageOf};
+ghost use Rattle.hpf_own.specs.Limits.{dimension_limit};
+ghost use Rattle.hpf_map.specs.Mappings.{array_at, MapsAt, AreMappings, IsReadyLine, IsStageOf, CanPermute, CanHold};
 ghost use Rattle.hpf_map.specs.Mapper.{IsMapper};
+ghost use Rattle.hpf_map.specs.Program.{HasDims, HasBuffers};
+ghost use Rattle.hpf_map.specs.Stages.{max_buffers};
 
 use crate::format_widths::FormatWidths;
 use crate::landings::Landing;
+use crate::lines::{Entries, Line, Number};
 use crate::mapped::array_mapping;
 use crate::names::Names;
 use crate::paired::at_place;
@@ -15,9 +19,12 @@ use crate::program::Stage;
 use crate::role::Role;
 use crate::shadows::Shadows;
 use crate::uses_that_map::used_place;
-use hpf_own::Mapping;
-use hpf_syntax::{Item, Spot};
+use hpf_own::{Mapping, Perm};
+use hpf_syntax::Item;
 use std::alloc::{AllocError, Global};
+
+/// How many buffers each channel into a stage has where BUFFERS isn't given.
+const BUFFERS: u32 = 2;
 
 /// Whether the name at a place is a free array.
 fn is_array(names: &Names, n: usize) -> bool
@@ -77,27 +84,32 @@ impl Mapper<'_> {
     }
 
     /// The stage of a line.
-    fn stage(&self, alloc: Global, line: &Spot) -> Result<Stage, AllocError>
+    fn stage(&self, alloc: Global, line: &Line) -> Result<Stage, AllocError>
         requires ready { IsMapper self.now }
-        requires mapped { IsMappedLine (map item_tree self.now.items.now) line.now }
+        requires line { IsReadyLine (map item_tree self.now.items.now) line.now }
         ensures { IfOk result (λ stage. IsStageOf (map item_tree self.now.items.now) line.now stage) }
     {
-        let Some(n) = used_place(self.names, Role::Array, &line.word) else {
+        let Some(n) = used_place(self.names, Role::Array, &line.array.word) else {
             unreachable!()
         };
         match self.mapping_at(alloc, n)? {
-            Some(mapping) => Ok(Stage {
-                array: line.word,
-                mapping,
-            }),
+            Some(mapping) => {
+                let perm = perm_of(alloc, &line.permute, mapping.bounds().rank())?;
+                Ok(Stage {
+                    array: line.array.word,
+                    mapping,
+                    perm,
+                    buffers: buffers_of(&line.buffers),
+                })
+            }
             None => unreachable!(),
         }
     }
 
     /// The stages of all lines, in order.
-    pub(crate) fn all_stages(&self, alloc: Global, lines: &[Spot]) -> Result<Vec<Stage>, AllocError>
+    pub(crate) fn all_stages(&self, alloc: Global, lines: &[Line]) -> Result<Vec<Stage>, AllocError>
         requires ready { IsMapper self.now }
-        requires mapped { All (IsMappedLine (map item_tree self.now.items.now)) lines.now }
+        requires lines { All (IsReadyLine (map item_tree self.now.items.now)) lines.now }
         ensures { IfOk result (λ stages. AllZip (IsStageOf (map item_tree self.now.items.now)) lines.now stages.items) }
     {
         let mut stages = Vec::new(alloc);
@@ -105,5 +117,52 @@ impl Mapper<'_> {
             stages.push(self.stage(alloc, line)?)?;
         }
         Ok(stages)
+    }
+}
+
+/// The dimensions that PERMUTE gives, or without it all dimensions of an array of this rank, in order.
+fn perm_of(alloc: Global, permute: &Option<Entries>, rank: u32) -> Result<Perm, AllocError>
+    requires some { 1 ≤ rank }
+    requires few { rank ≤ dimension_limit }
+    requires permute { CanPermute permute.now }
+    ensures { IfOk result (λ perm. HasDims permute.now rank perm) }
+{
+    let Some(entries) = permute else {
+        return Ok(Perm::identity(rank));
+    };
+    let Some(values) = &entries.values else {
+        unreachable!()
+    };
+    let dims = dims_of(alloc, values.as_slice())?;
+    match Perm::new(dims.as_slice()) {
+        Some(perm) => Ok(perm),
+        None => unreachable!(),
+    }
+}
+
+/// Entries as dimensions.
+fn dims_of(alloc: Global, values: &[i32]) -> Result<Vec<u32>, AllocError>
+    ensures { IfOk result (λ dims. dims.items ≡ map unsigned_abs values.now) }
+{
+    let mut dims = Vec::new(alloc);
+    for value in values {
+        dims.push(value.unsigned_abs())?;
+    }
+    Ok(dims)
+}
+
+/// How many buffers each channel into a stage has.
+fn buffers_of(buffers: &Option<Number>) -> u32
+    requires { CanHold buffers.now }
+    ensures is { HasBuffers buffers.now result }
+    ensures some { 1 ≤ result }
+    ensures few { result ≤ max_buffers }
+{
+    match buffers {
+        Some(Number {
+            value: Some(value), ..
+        }) => value.unsigned_abs(),
+        Some(_) => unreachable!(),
+        None => BUFFERS,
     }
 }

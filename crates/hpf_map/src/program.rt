@@ -7,7 +7,7 @@ ghost use Rattle.hpf_map.specs.Program.{mapping_in};
 use crate::names::Names;
 use crate::paired::at_place;
 use hpf_lex::Word;
-use hpf_own::Mapping;
+use hpf_own::{Mapping, Perm};
 use std::marker::Model;
 
 /// What a text is resolved for.
@@ -28,11 +28,15 @@ pub struct Counts {
     pub stages: u32,
 }
 
-/// A stage of a pipeline: the array of an INPUT or STAGE line, and its mapping.
+/// A stage of a pipeline, which an INPUT or a STAGE line makes.
 #[derive(Drop)]
 pub struct Stage {
     pub array: Word,
     pub mapping: Mapping,
+    /// The dimensions of the array of the stage before that stand in its own, as PERMUTE gives them; else all in order.
+    pub perm: Perm,
+    /// How many buffers each channel into it has, from 1 to 8.
+    pub buffers: u32,
 }
 
 /// What a text without a breach gives: the mappings of its arrays, its stages and its counts.

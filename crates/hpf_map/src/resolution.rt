@@ -15,7 +15,6 @@ use crate::counts::counts;
 use crate::direct::direct_images;
 use crate::landings::{Landing, all_landings};
 use crate::mappings::Mapper;
-use crate::pipeline::lines;
 use crate::program::{Need, Program};
 use crate::shadows::Shadows;
 use hpf_lex::{MapError, MapRefusal};
@@ -76,8 +75,7 @@ fn program_of(
         shadows: &shadows,
     };
     let mappings = mapper.all_mappings(alloc)?;
-    let lines = lines(alloc, items)?;
-    let stages = mapper.all_stages(alloc, lines.as_slice())?;
+    let stages = mapper.all_stages(alloc, statements.lines.as_slice())?;
     let counts = counts(alloc, &names, items)?;
     Ok(Program::new(names, mappings, stages, counts))
 }

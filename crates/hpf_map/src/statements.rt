@@ -6,6 +6,7 @@ ghost use Rattle.hpf_syntax.specs.Plain.{item_tree};
 ghost use Rattle.hpf_map.specs.Declarations.{threaded, no_dimensions, names_after, declaration_breaches};
 ghost use Rattle.hpf_map.specs.Found.{least_with};
 ghost use Rattle.hpf_map.specs.Layers.{names_of, ordered_breaches, breaches_in, judged, Judges};
+ghost use Rattle.hpf_map.specs.Lines.{all_lines, statement_line};
 ghost use Rattle.hpf_map.specs.ShadowWidths.{all_shadow_widths, statement_shadow};
 ghost use Rattle.hpf_map.specs.Subscripts.{all_subscripts, statement_subscripts};
 ghost use Rattle.hpf_map.specs.Uses.{item_use_breaches};
@@ -16,6 +17,8 @@ use crate::constants::declare_constants;
 use crate::declare::{common_limit, declare_all, dimensions};
 use crate::directives::{Said, read_directive};
 use crate::format_widths::FormatWidths;
+use crate::lines::Line;
+use crate::lists::add_found;
 use crate::name::{Dimensions, Shape, Space};
 use crate::names::Names;
 use crate::scope::Scope;
@@ -121,6 +124,7 @@ fn read_item(
     ensures subscripts { IfOk result (λ s. s.subscripts ≡ statement_subscripts names.old (item_tree item.now)) }
     ensures widths { IfOk result (λ s. s.widths ≡ statement_widths names.old (item_tree item.now)) }
     ensures shadow { IfOk result (λ s. s.shadow ≡ statement_shadow names.old (item_tree item.now)) }
+    ensures line { IfOk result (λ s. s.line ≡ statement_line names.old (item_tree item.now)) }
     ensures breaches { OnOk result (breaches.new ≡ least_with breaches.old
         (ordered_breaches names.old (item_tree item.now))) }
 {
@@ -129,17 +133,19 @@ fn read_item(
     Ok(said)
 }
 
-/// What statements declare, what the subscripts of each say, and the widths in its formats and of its shadow.
+/// What statements declare, what the subscripts of each say, the widths in its formats and of its shadow, and what the lines
+/// of a pipeline say.
 #[derive(Drop)]
 pub(crate) struct Statements {
     pub names: Names,
     pub said: Vec<Option<Subscripts>>,
     pub widths: Vec<Option<FormatWidths>>,
     pub shadows: Vec<Option<ShadowWidths>>,
+    pub lines: Vec<Line>,
 }
 
 /// Reads statements one after another.
-#[tactic(auto, using(crate::proofs::FoundLemmas::least_with_laws), unfolding(crate::specs::Subscripts::all_subscripts, crate::specs::Widths::all_widths, crate::specs::ShadowWidths::all_shadow_widths))]
+#[tactic(auto, using(crate::proofs::FoundLemmas::least_with_laws), unfolding(crate::specs::Subscripts::all_subscripts, crate::specs::Widths::all_widths, crate::specs::ShadowWidths::all_shadow_widths, crate::specs::Lines::all_lines))]
 fn read_items(
     alloc: Global,
     items: &[Item],
@@ -149,6 +155,7 @@ fn read_items(
     ensures said { IfOk result (λ s. s.said.items ≡ all_subscripts (map item_tree items.now)) }
     ensures widths { IfOk result (λ s. s.widths.items ≡ all_widths (map item_tree items.now)) }
     ensures shadows { IfOk result (λ s. s.shadows.items ≡ all_shadow_widths (map item_tree items.now)) }
+    ensures lines { IfOk result (λ s. s.lines.items ≡ all_lines (map item_tree items.now)) }
     ensures breaches { OnOk result (breaches.new ≡ least_with breaches.old
         (threaded names_after ordered_breaches [] (map item_tree items.now))) }
 {
@@ -156,17 +163,20 @@ fn read_items(
     let mut said = Vec::new(alloc);
     let mut widths = Vec::new(alloc);
     let mut shadows = Vec::new(alloc);
+    let mut lines = Vec::new(alloc);
     for item in items {
         let read = read_item(alloc, &mut names, item, breaches)?;
         said.push(read.subscripts)?;
         widths.push(read.widths)?;
         shadows.push(read.shadow)?;
+        add_found(&mut lines, read.line)?;
     }
     Ok(Statements {
         names,
         said,
         widths,
         shadows,
+        lines,
     })
 }
 
@@ -193,6 +203,7 @@ pub(crate) fn read_statements(
     ensures said { IfOk result (λ s. s.said.items ≡ all_subscripts (map item_tree items.now)) }
     ensures widths { IfOk result (λ s. s.widths.items ≡ all_widths (map item_tree items.now)) }
     ensures shadows { IfOk result (λ s. s.shadows.items ≡ all_shadow_widths (map item_tree items.now)) }
+    ensures lines { IfOk result (λ s. s.lines.items ≡ all_lines (map item_tree items.now)) }
     ensures breaches { OnOk result (breaches.new ≡ least_with breaches.old
         (breaches_in (map item_tree items.now))) }
 {

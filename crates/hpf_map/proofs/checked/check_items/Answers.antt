@@ -11,6 +11,9 @@ use Rattle.hpf_map.specs.Paired.{each_with}
 use Rattle.hpf_map.specs.Pipeline.{pipeline_breaches}
 use Rattle.hpf_map.specs.Refusal.{all_breaches}
 use Rattle.hpf_map.specs.Shadows.{shadows_breaches, first_shadow}
+use Rattle.hpf_map.specs.Declarations.{threaded}
+use Rattle.hpf_map.specs.Lines.{all_lines}
+use Rattle.hpf_map.specs.Stages.{nothing_behind, after_line, line_breaches, stages_breaches}
 use Rattle.hpf_map.specs.Ways.{ways_of, mapped_twice_breaches, first_uses, cycle_breaches}
 use Rattle.hpf_map.proofs.FoundLemmas.{least_with-append}
 use Rattle.hpf_map.proofs.checked.check_items.Goals as goal
@@ -27,16 +30,18 @@ returns-clause-checked c =
       said = s.said;
       widths = s.widths;
       shadow_widths = s.shadows;
+      lines = s.lines;
       ways = c.in_ok-mapped.ensures.ways ∙ ap (λ ns. ways_of ns items) s.names;
       first_shadows = λ n. c.in_ok-first_shadows.ensures.first n ∙ ap (λ ns. first_shadow ns items n) s.names;
     }
 
 pub returns-clause-breaches : goal.returns-clause-breaches
-unfolding all_breaches
+unfolding all_breaches stages_breaches
 returns-clause-breaches c =
     let items = map item_tree c.args.items.now in
     let named = c.in_ok-statements.ensures.names in
     taken _ _ _ _ _ _
+    (taken _ _ _ _ _ _
     (taken _ _ _ _ _ _
     (taken _ _ _ _ _ _
     (taken _ _ _ _ _ _
@@ -52,4 +57,7 @@ returns-clause-breaches c =
     (ap (λ w. flat_map (cycle_breaches w) c.as_slice-3.result.now) (c.in_ok-mapped.ensures.ways ∙ ap (λ ns. ways_of ns items) named)
     ∙ ap (flat_map (cycle_breaches (ways_of (names_of items) items))) (c.as_slice-3.ensures.value ∙ c.in_ok-mapped.ensures.first ∙ ap (λ ns. first_uses ns items) named)))
     c.in_ok-test_pipeline.ensures (ap (λ ns. pipeline_breaches c.args.need ns items) named))
-    c.in_ok-first_shadows.ensures.breaches (ap (λ ns. shadows_breaches ns items) named)
+    c.in_ok-first_shadows.ensures.breaches (ap (λ ns. shadows_breaches ns items) named))
+    c.test_lines.ensures
+    (ap (λ ls. threaded after_line (line_breaches c.in_ok-statements.statements.names) nothing_behind ls) (c.as_slice-4.ensures.value ∙ c.in_ok-statements.ensures.lines)
+    ∙ ap (λ ns. threaded after_line (line_breaches ns) nothing_behind (all_lines items)) named)

@@ -1,6 +1,8 @@
 use Rattle.std.proofs.Common.{[], ◌∷◌, ◌++◌, ap, ◌∙◌}
+use Rattle.std.specs.Prelude.{option_to_list}
 use Rattle.hpf_syntax.specs.Plain.{item_tree}
 use Rattle.hpf_map.specs.Declarations.{names_after}
+use Rattle.hpf_map.specs.Lines.{statement_line}
 use Rattle.hpf_map.specs.ShadowWidths.{statement_shadow}
 use Rattle.hpf_map.specs.Subscripts.{statement_subscripts}
 use Rattle.hpf_map.specs.Widths.{statement_widths}
@@ -27,4 +29,9 @@ loop-item-preserved c = record {
       c.new-names.result c.loop-item.names c.loop-item.shadows.items c.push-in-loop-item-2.new.self.items c.loop-item-test.true c.item-item.is
       c.loop-item.invariant.threads.state c.loop-item.invariant.shadows
       (c.in_ok-push-3.ensures.items ∙ ap (λ s. c.loop-item.shadows.items ++ s ∷ []) c.in_ok-read.ensures.shadow);
+  lines =
+      threaded_more item_tree names_after (λ before item. option_to_list (statement_line before item)) c.args.items.now c.loop-item.item-index c.item-item.result
+      c.new-names.result c.loop-item.names c.loop-item.lines.items c.add_found.new.list.items c.loop-item-test.true c.item-item.is
+      c.loop-item.invariant.threads.state c.loop-item.invariant.lines
+      (c.in_ok-add_found.ensures ∙ ap (λ l. c.loop-item.lines.items ++ option_to_list l) c.in_ok-read.ensures.line);
 }
