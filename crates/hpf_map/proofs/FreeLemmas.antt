@@ -159,7 +159,7 @@ mapped_there g None h = absurd cc
 mapped_there g (Some x) h = refl
 
 -- all values are there where each is
-all_there : {A B C : Type 0} (give : A → List C) (f : A → Option B) → ((x : A) → give x ≡ [] → is_some (f x) ≡ true)
+pub all_there : {A B C : Type 0} (give : A → List C) (f : A → Option B) → ((x : A) → give x ≡ [] → is_some (f x) ≡ true)
     → (xs : List A) → flat_map give xs ≡ [] → is_some (all_of (map f xs)) ≡ true
 unfolding all_of
 all_there give f there [] none = refl

@@ -7,6 +7,7 @@ pub mod DistributionLemmas
 pub mod ShapeLemmas
 pub mod GatherLemmas
 pub mod SoundLemmas
+pub mod StageLemmas
 pub mod DeclareLemmas
 pub mod PairedLemmas
 pub mod ArrangementLemmas

@@ -215,7 +215,7 @@ stage_lines : (items : List ItemTree) (said : List Line) (stages : List Stage) �
 stage_lines items [] [] h = tt
 stage_lines items [] (s ∷ stages) h = absurd h
 stage_lines items (x ∷ said) [] h = absurd h
-stage_lines items (x ∷ said) (s ∷ stages) h = (h.0.line, stage_lines items said stages h.1)
+stage_lines items (x ∷ said) (s ∷ stages) h = (h.0.said, stage_lines items said stages h.1)
 
 stage_maps : (items : List ItemTree) (spots : List Line) (stages : List Stage) → AllZip (IsStageOf items) spots stages → All (λ stage. Maps items (array_place items stage.array) (Some stage.mapping)) stages
 stage_maps items [] [] h = All-nil (λ stage. Maps items (array_place items stage.array) (Some stage.mapping))

@@ -36,6 +36,7 @@ use Rattle.hpf_map.specs.Paired.{each_with, at_place}
 use Rattle.hpf_map.specs.Pipeline.{line_of, lines, base_breaches, pipeline_breaches}
 use Rattle.hpf_map.specs.Refusal.{all_breaches}
 use Rattle.hpf_map.specs.Shadows.{shadows_breaches}
+use Rattle.hpf_map.specs.Stages.{stages_breaches}
 use Rattle.hpf_map.specs.Sound.{AreSoundNames, AreGood, IsSoundShape, IsSoundMeaning}
 use Rattle.hpf_map.specs.Spaces.{meaning_shape, fit, used_as, shape_of}
 use Rattle.hpf_map.specs.Subscripts.{all_subscripts}
@@ -64,6 +65,7 @@ pub record AreNone (need : Need) (items : List ItemTree) : Type 0 where
   pub cycles : flat_map (cycle_breaches (ways_of (names_of items) items)) (first_uses (names_of items) items) ≡ []
   pub pipeline : pipeline_breaches need (names_of items) items ≡ []
   pub shadows : shadows_breaches (names_of items) items ≡ []
+  pub stages : stages_breaches (names_of items) items ≡ []
 
 uses_none : (items : List ItemTree) → breaches_in items ≡ [] → flat_map (item_use_breaches (names_of items)) items ≡ []
 unfolding breaches_in
@@ -72,7 +74,8 @@ uses_none items h = others_empty _ _ h
 pub all_none : (need : Need) (items : List ItemTree) → all_breaches need items ≡ [] → AreNone need items
 unfolding all_breaches
 all_none need items h =
-    let g = first_empty _ _ h in
+    let s = first_empty _ _ h in
+    let g = first_empty _ _ s in
     let e = first_empty _ _ g in
     let f = first_empty _ _ (first_empty _ _ e) in
     let d = first_empty _ _ f in
@@ -85,7 +88,8 @@ all_none need items h =
       formats = others_empty _ _ f;
       cycles = others_empty _ _ e;
       pipeline = others_empty _ _ g;
-      shadows = others_empty _ _ h;
+      shadows = others_empty _ _ s;
+      stages = others_empty _ _ h;
     }
 
 -- ---- names
@@ -160,7 +164,7 @@ is_there : {A : Type 0} (o : Option A) → is_some o ≡ true → (x : A) × (o 
 is_there None h = absurd (false≢true h)
 is_there (Some x) h = (x, refl)
 
-array_shaped : (m : Meaning) → suits role.Array m ≡ true → IsWhole m → IsShaped m
+pub array_shaped : (m : Meaning) → suits role.Array m ≡ true → IsWhole m → IsShaped m
 array_shaped meaning.Scalar h w = absurd (false≢true h)
 array_shaped (meaning.Shaped what dimensions) h w = is_there dimensions.shape w
 array_shaped (meaning.Constant v) h w = absurd (false≢true h)

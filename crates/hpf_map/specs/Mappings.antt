@@ -74,4 +74,4 @@ module _ (items : List ItemTree) where
   pub record IsStageOf (line : Line) (stage : Stage) : Type 0 where
     pub array : stage.array ≡ line.array.word
     pub mapping : Maps items (array_place items line.array.word) (Some stage.mapping)
-    pub line : HasLine line stage
+    pub said : HasLine line stage

@@ -8,10 +8,13 @@ use Rattle.hpf_map.specs.declared.mappings.Mapper.{Mapper}
 use Rattle.hpf_map.specs.declared.program.Need.{Need}
 use Rattle.hpf_map.specs.Checked.{IsChecked}
 use Rattle.hpf_map.specs.Mapper.{IsMapper}
-use Rattle.hpf_map.specs.Mappings.{CanMapAll, IsMappedLine, IsStageOf}
+use Rattle.hpf_map.specs.Lines.{all_lines}
+use Rattle.hpf_map.specs.Mappings.{CanMapAll, IsReadyLine, IsStageOf}
 use Rattle.hpf_map.specs.Program.{IsProgram}
 use Rattle.hpf_map.specs.Refusal.{all_breaches}
-use Rattle.hpf_map.proofs.ResolveLemmas.{lines_mapped, lines_few, zip_long, program_is}
+use Rattle.std.proofs.lemmas.List.{length-map}
+use Rattle.hpf_map.proofs.ResolveLemmas.{line_arrays, lines_few, zip_long, program_is}
+use Rattle.hpf_map.proofs.StageLemmas.{lines_ready}
 use Rattle.hpf_map.proofs.ShadedLemmas.{shadows_are}
 use Rattle.hpf_map.proofs.resolution.program_of.Goals as goal
 
@@ -34,23 +37,25 @@ pub all_stages-requires-clause-ready : goal.all_stages-requires-clause-ready
 all_stages-requires-clause-ready c =
     mapper_is c.args.need _ c.args.checked c.requires.none c.requires.checked refl c.as_slice.ensures.value refl refl (subst (CanMapAll (map item_tree c.args.items.now)) (sym c.as_slice-2.ensures.value) c.in_ok-landings.ensures)
 
-pub all_stages-requires-clause-mapped : goal.all_stages-requires-clause-mapped
-all_stages-requires-clause-mapped c =
+pub all_stages-requires-clause-lines : goal.all_stages-requires-clause-lines
+all_stages-requires-clause-lines c =
     let items = map item_tree c.args.items.now in
-    subst (All (IsMappedLine items)) (sym (c.as_slice-3.ensures.value ∙ c.in_ok-lines.ensures)) (lines_mapped c.args.need items c.requires.none)
+    subst (All (IsReadyLine items)) (sym (c.as_slice-3.ensures.value ∙ c.requires.checked.lines)) (lines_ready c.args.need items c.requires.none)
 
 pub new-requires : goal.new-requires
 new-requires c =
     let items = map item_tree c.args.items.now in
     let long = zip_long (IsStageOf items) c.as_slice-3.result.now c.in_ok-stages.stages.items c.in_ok-stages.ensures in
-    let lines = ap length (c.as_slice-3.ensures.value ∙ c.in_ok-lines.ensures) in
+    let said = ap length (c.as_slice-3.ensures.value ∙ c.requires.checked.lines) in
+    let same = length-map (all_lines items) (λ l. l.array) in
+    let lines = ap length (line_arrays items) in
     let few = lines_few c.args.need items c.requires.none in
-    record { few = omega (arith, long, lines, few) }
+    record { few = omega (arith, long, said, same, lines, few) }
 
 pub returns : goal.returns
 returns c =
     let items = map item_tree c.args.items.now in
     subst (IsProgram items) (sym c.new.ensures)
     (program_is items _ _ _ _ c.requires.checked.names c.in_ok-mappings.ensures
-    (subst (λ lines. AllZip (IsStageOf items) lines c.in_ok-stages.stages.items) (c.as_slice-3.ensures.value ∙ c.in_ok-lines.ensures) c.in_ok-stages.ensures)
+    (subst (λ lines. AllZip (IsStageOf items) lines c.in_ok-stages.stages.items) (c.as_slice-3.ensures.value ∙ c.requires.checked.lines) c.in_ok-stages.ensures)
     c.in_ok-counts.ensures)
