@@ -33,6 +33,7 @@ mod row;
 mod run;
 mod scope;
 mod series;
+mod stages;
 mod sure;
 mod tables;
 mod tally;
