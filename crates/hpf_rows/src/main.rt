@@ -29,6 +29,7 @@ mod parts;
 mod piece;
 mod question;
 mod reading;
+mod routes;
 mod row;
 mod run;
 mod scope;
