@@ -6,6 +6,8 @@
 mod generator;
 mod piece;
 mod ready;
+#[cfg(test)]
+mod tests;
 mod value;
 
 pub use generator::GenSource;

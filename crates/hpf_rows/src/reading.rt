@@ -1,8 +1,10 @@
 //! What comes of a text.
 
-use crate::elements::{owners_in, owners_of};
+use crate::elements::owners_in;
 use crate::held::held_in;
 use crate::lexemes::lexemes;
+use crate::routes::routes_of;
+use crate::stages::stages_of;
 use crate::text::text_of;
 use crate::trees::statements;
 use anyhow::{Context, Result, bail};
@@ -30,7 +32,8 @@ fn meaning(alloc: Global, head: &str, row: &str) -> Result<String> {
         "mapping" => Ok(judged(alloc, judge(alloc, &text, Need::Mapping))?),
         "pipeline" => Ok(judged(alloc, judge(alloc, &text, Need::Pipeline))?),
         "counts" => counts_in(alloc, &text),
-        "stage" => stage_in(alloc, &text),
+        "stages" => stages_in(alloc, &text),
+        "routes" => routes_in(alloc, &text),
         _ => array(alloc, head, &text),
     }
 }
@@ -42,6 +45,22 @@ fn array(alloc: Global, head: &str, row: &str) -> Result<String> {
         "owners" => owners(alloc, text, word),
         "held" => held(alloc, text, word),
         _ => bail!("no such question"),
+    }
+}
+
+/// The stages of a text, or its refusal.
+fn stages_in(alloc: Global, text: &str) -> Result<String> {
+    match program(alloc, text, Need::Pipeline) {
+        Ok(program) => stages_of(alloc, &program),
+        Err(error) => Ok(judged(alloc, Err(error))?),
+    }
+}
+
+/// The routes between the first two stages of a text, or its refusal.
+fn routes_in(alloc: Global, text: &str) -> Result<String> {
+    match program(alloc, text, Need::Pipeline) {
+        Ok(program) => routes_of(alloc, &program),
+        Err(error) => Ok(judged(alloc, Err(error))?),
     }
 }
 
@@ -60,24 +79,6 @@ fn counts_of(alloc: Global, program: &Program) -> Result<String, AllocError> {
     format!(in alloc;
         "arrays {arrays} templates {templates} arrangements {arrangements} stages {stages}"
     )
-}
-
-/// The array of the first stage of a text, and the owners of its elements, or the text's refusal.
-fn stage_in(alloc: Global, text: &str) -> Result<String> {
-    match program(alloc, text, Need::Pipeline) {
-        Ok(program) => stage_of(alloc, &program),
-        Err(error) => Ok(judged(alloc, Err(error))?),
-    }
-}
-
-fn stage_of(alloc: Global, program: &Program) -> Result<String> {
-    if program.stages() == 0 {
-        return Ok(String::from_str(alloc, "no stage")?);
-    }
-    let stage = program.stage(0);
-    let name = str::from_utf8(stage.array.as_slice()).context("a name of other bytes")?;
-    let owners = owners_of(alloc, &stage.mapping)?;
-    Ok(format!(in alloc; "{name}, owners {owners}")?)
 }
 
 /// The tokens of a text.

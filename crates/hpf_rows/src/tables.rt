@@ -3,7 +3,7 @@
 use crate::scope::Named;
 use crate::tally::push_tables;
 use anyhow::Result;
-use hpf_vectors::{ASKED, CONSTRAINTS, ENDS, LINES, PARTS, RUNS, STATEMENTS, TOKENS};
+use hpf_vectors::{ASKED, CONSTRAINTS, ENDS, LINES, PARTS, RUNS, STAGES, STATEMENTS, TOKENS};
 use std::alloc::Global;
 
 /// Adds how many rows of each table came out right, and what differs.
@@ -12,6 +12,7 @@ pub fn push_all(alloc: Global, to: &mut String) -> Result<()> {
     push_tokens(alloc, &mut texts, to)?;
     push_statements(alloc, &mut texts, to)?;
     push_constraints(alloc, &mut texts, to)?;
+    push_stages(alloc, &mut texts, to)?;
     push_parts(alloc, &mut texts, to)?;
     push_lines(alloc, &mut texts, to)?;
     push_asked(alloc, &mut texts, to)?;
@@ -29,6 +30,10 @@ fn push_statements<'a>(alloc: Global, texts: &mut Vec<Named<'a>>, to: &mut Strin
 
 fn push_constraints<'a>(alloc: Global, texts: &mut Vec<Named<'a>>, to: &mut String) -> Result<()> {
     push_tables(alloc, CONSTRAINTS, texts, to)
+}
+
+fn push_stages<'a>(alloc: Global, texts: &mut Vec<Named<'a>>, to: &mut String) -> Result<()> {
+    push_tables(alloc, STAGES, texts, to)
 }
 
 fn push_parts<'a>(alloc: Global, texts: &mut Vec<Named<'a>>, to: &mut String) -> Result<()> {

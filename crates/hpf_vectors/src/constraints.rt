@@ -372,10 +372,6 @@ pipeline INTEGER A(3), A(4)~refused 21 at 1:15
 
 /// Rows of forms that are built later, alone and beside breaches that are found where they are built.
 pub(super) const NOT_BUILT_FOR_MAPPINGS: &str = r#"
-mapping INTEGER A(4), A(4)\n!HPF$ SHADOW A(1)\n!PIPE$ STAGE A~refused 9 at 1:1
-mapping INTEGER A(4)\n!PIPE$ STAGE A~refused 9 at 1:1
-mapping INTEGER A(4)\n!HPF$ PROCESSORS P(2)\n!HPF$ DISTRIBUTE A(BLOCK(1)) ONTO P\n!PIPE$ STAGE A~refused 9 at 1:1
-mapping INTEGER A(4)\n!PIPE$ INPUT A BUFFERS(2)~refused 9 at 1:1
 mapping INTEGER A(4)\n!PIPE$ INPUT A ADD(1)~refused 9 at 1:1
 mapping INTEGER A(4)\n!PIPE$ INPUT X PREFIX(1)~refused 9 at 1:1
 mapping INTEGER A(4:3)\n!HPF$ ALIGN A WITH X\n!HPF$ SHADOW A(-1)\n!PIPE$ INPUT A MUL(2)~refused 9 at 1:1
@@ -383,10 +379,6 @@ mapping INTEGER A(4:3)\n!HPF$ ALIGN A WITH X\n!HPF$ SHADOW A(-1)\n!PIPE$ INPUT A
 
 /// Rows of forms that are built later, alone and beside breaches that are found where they are built.
 pub(super) const NOT_BUILT_FOR_PIPELINES: &str = r#"
-pipeline INTEGER A(4), A(4)\n!HPF$ SHADOW A(1)\n!PIPE$ STAGE A~refused 9 at 1:1
-pipeline INTEGER A(4)\n!PIPE$ STAGE A~refused 9 at 1:1
-pipeline INTEGER A(4)\n!HPF$ PROCESSORS P(2)\n!HPF$ DISTRIBUTE A(BLOCK(1)) ONTO P\n!PIPE$ STAGE A~refused 9 at 1:1
-pipeline INTEGER A(4)\n!PIPE$ INPUT A BUFFERS(2)~refused 9 at 1:1
 pipeline INTEGER A(4)\n!PIPE$ INPUT A ADD(1)~refused 9 at 1:1
 pipeline INTEGER A(4)\n!PIPE$ INPUT X PREFIX(1)~refused 9 at 1:1
 pipeline INTEGER A(4:3)\n!HPF$ ALIGN A WITH X\n!HPF$ SHADOW A(-1)\n!PIPE$ INPUT A MUL(2)~refused 9 at 1:1

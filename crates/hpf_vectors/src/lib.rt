@@ -61,7 +61,11 @@
 //! owners TEXT~A     the owners of each element of A, in element order and with commas between several owners of one;
 //!                   `unmapped` where A is no array whose ultimate base is distributed
 //! held TEXT~A       what each processor holds of A
-//! counts TEXT       how much it declares; `stage TEXT` the array of its first stage
+//! counts TEXT       how much it declares
+//! stages TEXT       its stages: of each the array, the dimensions of the stage before that stand in its own, its buffers and
+//!                   the owners of its elements
+//! routes TEXT       the routes from its first stage to its second: of each with an element its sender and receiver, and of
+//!                   each step the place that it leaves, the place that it enters and its length
 //! word WORD         the name that it is; `message ERROR` the message of an error
 //! last TEXT~9       how many tokens the first 9 bytes of this text have, again and again, and the place of the last
 //! printed A~B~9     how long A with nine times B behind it is, and whether it is its own canonical text
@@ -78,7 +82,9 @@ mod constraints;
 mod grammar;
 mod long;
 mod made;
+mod routes;
 mod shadows;
+mod stages;
 mod tokens;
 
 pub use calls::{ASKED, ENDS, LINES, RUNS};
@@ -183,6 +189,38 @@ pub const CONSTRAINTS: &[Table] = &[
     Table {
         title: "forms not built, for a pipeline",
         rows: constraints::NOT_BUILT_FOR_PIPELINES,
+    },
+];
+
+/// What mapping texts mean: the lines of a pipeline.
+pub const STAGES: &[Table] = &[
+    Table {
+        title: "stages beside the line before",
+        rows: stages::EXTENTS,
+    },
+    Table {
+        title: "permutations",
+        rows: stages::PERMUTATIONS,
+    },
+    Table {
+        title: "buffers",
+        rows: stages::BUFFERS,
+    },
+    Table {
+        title: "lines of a pipeline",
+        rows: stages::LINES,
+    },
+    Table {
+        title: "lines beside breaches",
+        rows: stages::UNTESTED,
+    },
+    Table {
+        title: "stages",
+        rows: stages::STAGES,
+    },
+    Table {
+        title: "routes",
+        rows: routes::ROUTES,
     },
 ];
 

@@ -13,7 +13,6 @@ list INDIRECT 20000~refused 35 at 5:18
 /// What a program tells of a text besides its mappings.
 pub(super) const PROGRAMS: &str = r#"
 counts INTEGER A(3), B(3)\n!HPF$ TEMPLATE T(3)\n!HPF$ PROCESSORS P(2)\n!HPF$ ALIGN B WITH T\n!HPF$ DISTRIBUTE T(BLOCK) ONTO P\n!PIPE$ INPUT B\n~arrays 2 templates 1 arrangements 1 stages 1
-stage INTEGER A(3), B(3)\n!HPF$ TEMPLATE T(3)\n!HPF$ PROCESSORS P(2)\n!HPF$ ALIGN B WITH T\n!HPF$ DISTRIBUTE T(BLOCK) ONTO P\n!PIPE$ INPUT B\n~B, owners 0 0 1
 "#;
 
 /// What processors own or hold under mappings that are made by hand: how many elements, and the index of each with its place.

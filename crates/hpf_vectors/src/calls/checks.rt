@@ -186,44 +186,84 @@ status 2 map refused 22 Unknown at 1:14
 load "M" limit 1048576
 input left 0
 
-# Forms that aren't built, alone and beside a breach, which comes after, or a fault, which comes before
+# Stages
 
-row a stage
+row three stages
 words hpfturn check M
 file M
 @ M13
 | !PIPE$ STAGE A
+| !PIPE$ STAGE A PERMUTE(1) BUFFERS(8)
 gives
-status 2 map refused 9 NotBuilt at 1:1
+status 0
 load "M" limit 1048576
 input left 0
+out | accepted arrays 1 templates 0 arrangements 1 stages 3
 
 row a stage of an unknown name
 words hpfturn check M
 file M - !PIPE$ STAGE B
 gives
-status 2 map refused 9 NotBuilt at 1:1
+status 2 map refused 22 Unknown at 1:14
 load "M" limit 1048576
 input left 0
 
-row buffers, checked
+row a stage before any input
 words hpfturn check M
-file M - INTEGER A(3)
-= 0a
-| !PIPE$ INPUT A BUFFERS(2)
+file M
+| !PIPE$ STAGE A
+@ M13
 gives
-status 2 map refused 9 NotBuilt at 1:1
+status 2 map refused 42 Pipeline at 1:14
 load "M" limit 1048576
 input left 0
 
-row too many buffers beside an array without elements
+row nine buffers
 words hpfturn check M
-file M | INTEGER A(0)
+file M
+| INTEGER A(3)
+| !HPF$ PROCESSORS P(2)
+| !HPF$ DISTRIBUTE A(BLOCK) ONTO P
 | !PIPE$ INPUT A BUFFERS(9)
 gives
-status 2 map refused 9 NotBuilt at 1:1
+status 2 map refused 26 Limit at 4:24
 load "M" limit 1048576
 input left 0
+
+row no buffer
+words hpfturn check M
+file M
+| INTEGER A(3)
+| !HPF$ PROCESSORS P(2)
+| !HPF$ DISTRIBUTE A(BLOCK) ONTO P
+| !PIPE$ INPUT A BUFFERS(0)
+gives
+status 2 map refused 26 Limit at 4:24
+load "M" limit 1048576
+input left 0
+
+row sixteen stages behind an input
+words hpfturn check M
+file M
+@ M13
+16 * | !PIPE$ STAGE A
+gives
+status 2 map refused 26 Limit at 20:14
+load "M" limit 1048576
+input left 0
+
+row fifteen stages behind an input
+words hpfturn check M
+file M
+@ M13
+15 * | !PIPE$ STAGE A
+gives
+status 0
+load "M" limit 1048576
+input left 0
+out | accepted arrays 1 templates 0 arrangements 1 stages 16
+
+# Operations aren't built, alone and beside a breach, which comes after, or a fault, which comes before
 
 row an operation, checked
 words hpfturn check M

@@ -359,7 +359,44 @@ file M
 | !PIPE$ INPUT A BUFFERS(2)
 input @ F3
 gives
+status 0
+load "M" limit 1048576
+input left 0
+out @ F3
+notes
+| mark 0 0 held 2 sum 5
+| mark 0 1 held 1 sum 3
+
+row a stage
+words hpfturn run M
+file M
+@ M13
+| !PIPE$ STAGE A
+input @ F3
+gives
 status 2 map refused 9 NotBuilt at 1:1
+load "M" limit 1048576
+input left 34
+
+row a stage beside breaches
+words hpfturn run M
+file M
+| INTEGER A(0)
+| !PIPE$ STAGE B
+input @ F3
+gives
+status 2 map refused 9 NotBuilt at 1:1
+load "M" limit 1048576
+input left 34
+
+row a stage behind a line that isn't a statement
+words hpfturn run M
+file M
+| INTEGER A(
+| !PIPE$ STAGE B
+input @ F3
+gives
+status 2 map refused 10 Syntax at 1:11
 load "M" limit 1048576
 input left 34
 
