@@ -8,6 +8,7 @@ pub mod ShapeLemmas
 pub mod GatherLemmas
 pub mod SoundLemmas
 pub mod StageLemmas
+pub mod TurnLemmas
 pub mod DeclareLemmas
 pub mod PairedLemmas
 pub mod ArrangementLemmas

@@ -30,7 +30,7 @@ short_shadow n some few =
 -- ---- how many elements
 
 -- as the mapping of an array counts the integers of its bounds
-run_extent : (s : Span) → s.low ≤ℤ s.high → run.extent (run_of s) ≡ extent s
+pub run_extent : (s : Span) → s.low ≤ℤ s.high → run.extent (run_of s) ≡ extent s
 run_extent s order =
     let is : (s.high -ℤ s.low) +ℤ pos 1 ≡ pos (unsigned_abs (s.high -ℤ s.low) + 1) = omega (arith, ints) in
     ap or_zero is

@@ -36,7 +36,7 @@ use Rattle.hpf_map.specs.Mappings.{array_at, MapsFor, MapsAt, AreMappings, CanMa
 use Rattle.hpf_map.specs.Ownership.{IsMappingOf}
 use Rattle.hpf_map.specs.Paired.{inner, at_place}
 use Rattle.hpf_map.specs.Pipeline.{lines, first_spot_breach, pipeline_breaches}
-use Rattle.hpf_map.specs.Program.{distributing, ultimate, statement_for, array_place, MapsBy, Maps, counts_of, HasLine, IsProgram}
+use Rattle.hpf_map.specs.Program.{distributing, ultimate, statement_for, array_place, MapsBy, Maps, counts_of, HasLine, AgreeInTurn, IsProgram}
 use Rattle.hpf_map.specs.Refusal.{all_breaches}
 use Rattle.hpf_map.specs.Spaces.{fit, used_as}
 use Rattle.hpf_map.specs.Uses.{suits}
@@ -226,14 +226,15 @@ stage_maps items (x ∷ spots) (s ∷ stages) h =
     (subst (λ w. Maps items (array_place items w) (Some s.mapping)) (sym h.0.array) h.0.mapping) (stage_maps items spots stages h.1)
 
 pub program_is : (items : List ItemTree) (names : List Name) (mappings : List (Option PlainMapping)) (stages : List Stage) (counts : Counts) → names ≡ names_of items
-    → AreMappings items mappings → AllZip (IsStageOf items) (all_lines items) stages → counts ≡ counts_of items
+    → AreMappings items mappings → AllZip (IsStageOf items) (all_lines items) stages → counts ≡ counts_of items → AgreeInTurn stages
     → IsProgram items (record { names = names; mappings = mappings; stages = stages; counts = counts })
-program_is items names mappings stages counts are_names are zip count = record {
+program_is items names mappings stages counts are_names are zip count agree = record {
   counts = count;
   mappings = λ word. subst (λ ns. Maps items (array_place items word) (option_and_then (λ n. at_place n mappings) (place_of ns word))) (sym are_names) (word_maps items mappings are word);
   arrays = stage_arrays items (all_lines items) stages zip ∙ ap (map (λ spot. spot.word)) (line_arrays items);
   stages = stage_maps items (all_lines items) stages zip;
   lines = stage_lines items (all_lines items) stages zip;
+  agree = agree;
 }
 
 -- ---- landings of a text without a breach

@@ -192,13 +192,13 @@ module _ (own : List Span) (before : Option (List Span)) where
     by None h e = absurd (false≢true h)
     by (Some values) h e = (values, refl, permuting (length own) values some few (permuted values before e))
 
-not_false : (b : Bool) → not b ≡ false → b ≡ true
+pub not_false : (b : Bool) → not b ≡ false → b ≡ true
 not_false true e = refl
 not_false false e = absurd (false≢true (sym e))
 
 module _ (items : List ItemTree) (free : All IsFree (names_of items)) where
   -- the array of a line has a shape
-  own_shape : (spot : Spot) → IsMappedLine items spot → (spans : List Span) × (shape_of (names_of items) Array spot.word ≡ Some spans)
+  pub own_shape : (spot : Spot) → IsMappedLine items spot → (spans : List Span) × (shape_of (names_of items) Array spot.word ≡ Some spans)
   own_shape spot m =
       let u = used_is (names_of items) Array spot.word m.place m.array in
       let shaped = array_shaped u.name.meaning u.suits (free_at (names_of items) Array spot.word m.place free u).whole in
@@ -230,7 +230,7 @@ module _ (items : List ItemTree) (free : All IsFree (names_of items)) where
       (ready behind l (first_empty _ _ none) (All-head IsSaid l said is) (All-head (λ l. IsMappedLine items l.array) l said mapped))
       (all_ready said (after_line behind l) (others_empty _ _ none) (All-tail IsSaid l said is) (All-tail (λ l. IsMappedLine items l.array) l said mapped))
 
-all_seen : {A B : Type 0} (P : B → Type 0) (f : A → B) (xs : List A) → All P (map f xs) → All (λ x. P (f x)) xs
+pub all_seen : {A B : Type 0} (P : B → Type 0) (f : A → B) (xs : List A) → All P (map f xs) → All (λ x. P (f x)) xs
 all_seen P f [] h = All-nil (λ x. P (f x))
 all_seen P f (x ∷ xs) h = All-cons (λ x. P (f x)) x xs (All-head P (f x) (map f xs) h) (all_seen P f xs (All-tail P (f x) (map f xs) h))
 

@@ -1,6 +1,7 @@
 -- What a mapping text without a breach gives: the mappings of its arrays, its stages and its counts.
-use Rattle.std.specs.Prelude.{ℕ, ◌≡◌, ◌≤◌, List, length, map, filter, min, All, Bool, true, false, Option, Some, None, option_and_then, ℤ, pos, unsigned_abs}
+use Rattle.std.specs.Prelude.{ℕ, ◌≡◌, ◌+◌, ◌≤◌, List, length, map, filter, min, All, Bool, true, false, Option, Some, None, option_and_then, slice_get, ℤ, pos, unsigned_abs}
 use Rattle.std.specs.List.{AllZip, range_with_len}
+use Rattle.hpf_own.specs.Correspondence.{ExtentsAgree}
 use Rattle.hpf_own.specs.Mapping.{PlainMapping}
 use Rattle.hpf_syntax.specs.Plain.{ItemTree}
 use Rattle.hpf_map.specs.declared.lines.Entries.{Entries}
@@ -109,6 +110,11 @@ pub record HasLine (line : Line) (stage : Stage) : Type 0 where
   pub some : 1 ≤ stage.buffers
   pub few : stage.buffers ≤ max_buffers
 
+-- The extents of each stage but the first agree with those of the stage before, by its dimensions.
+abbrev pub AgreeInTurn : List Stage → Type 0
+AgreeInTurn stages = (s : ℕ) (before stage : Stage) → slice_get stages s ≡ Some before → slice_get stages (s + 1) ≡ Some stage
+    → ExtentsAgree before.mapping.bounds stage.mapping.bounds stage.perm
+
 -- A program is that of a text.
 pub record IsProgram (items : List ItemTree) (p : PlainProgram) : Type 0 where
   pub counts : p.counts ≡ counts_of items
@@ -116,3 +122,4 @@ pub record IsProgram (items : List ItemTree) (p : PlainProgram) : Type 0 where
   pub arrays : map (λ stage. stage.array) p.stages ≡ map (λ spot. spot.word) (lines items)
   pub stages : All (λ stage. Maps items (array_place items stage.array) (Some stage.mapping)) p.stages
   pub lines : AllZip HasLine (all_lines items) p.stages
+  pub agree : AgreeInTurn p.stages

@@ -16,6 +16,7 @@ use Rattle.std.proofs.lemmas.List.{length-map}
 use Rattle.hpf_map.proofs.ResolveLemmas.{line_arrays, lines_few, zip_long, program_is}
 use Rattle.hpf_map.proofs.StageLemmas.{lines_ready}
 use Rattle.hpf_map.proofs.ShadedLemmas.{shadows_are}
+use Rattle.hpf_map.proofs.TurnLemmas.{in_turn}
 use Rattle.hpf_map.proofs.resolution.program_of.Goals as goal
 
 -- what mappings are made of, where it is all that is found of a text without a breach
@@ -55,7 +56,9 @@ new-requires c =
 pub returns : goal.returns
 returns c =
     let items = map item_tree c.args.items.now in
+    let stages = c.in_ok-stages.stages.items in
+    let zip : AllZip (IsStageOf items) (all_lines items) stages =
+        subst (λ lines. AllZip (IsStageOf items) lines stages) (c.as_slice-3.ensures.value ∙ c.requires.checked.lines) c.in_ok-stages.ensures in
     subst (IsProgram items) (sym c.new.ensures)
-    (program_is items _ _ _ _ c.requires.checked.names c.in_ok-mappings.ensures
-    (subst (λ lines. AllZip (IsStageOf items) lines c.in_ok-stages.stages.items) (c.as_slice-3.ensures.value ∙ c.requires.checked.lines) c.in_ok-stages.ensures)
-    c.in_ok-counts.ensures)
+    (program_is items _ _ _ _ c.requires.checked.names c.in_ok-mappings.ensures zip c.in_ok-counts.ensures
+    (in_turn c.args.need items stages c.requires.none zip))
