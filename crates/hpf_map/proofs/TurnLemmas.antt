@@ -123,15 +123,15 @@ agreeing before own None perm sound_before sound_own e dims =
     let order : range_with_len 1 (length own) ≡ perm = ap (range_with_len 1) (sym (length-map own run_of)) ∙ sym dims in
     extents_agree before own perm sound_before sound_own alike.size (subst (AreExtents before own) order (in_order before own alike))
 agreeing before own (Some entries) perm sound_before sound_own e dims =
-    let tested : agree_by (Some before) own dims.0 ≡ true = subst (λ o. agree_where_free (Some before) own o ≡ true) dims.1.0 e in
+    let tested : agree_by (Some before) own dims.0 ≡ true = subst (λ o. agree_where_free (Some before) own o ≡ true) dims.1 e in
     let agree = second_true _ _ tested in
     extents_agree before own perm sound_before sound_own (eqb-true _ _ (first_true _ _ agree))
-    (subst (AreExtents before own) (sym dims.1.1) (by_values before own dims.0 (second_true _ _ agree)))
+    (subst (AreExtents before own) (sym dims.2) (by_values before own dims.0 (second_true _ _ agree)))
 
 -- ---- only the first line is an INPUT line
 
 abbrev firsts_of : Line → List Spot
-firsts_of line = if line.follows then [] else line.array ∷ []
+firsts_of line = cond line.follows [] (line.array ∷ [])
 
 abbrev firsts : List Line → List Spot
 firsts said = flat_map firsts_of said
