@@ -1,7 +1,7 @@
 -- Lines of a pipeline without a breach.
-use Rattle.std.proofs.Common.{◌≡◌, ℕ, zero, suc, ◌+◌, ◌<◌, ◌≤◌, ◌==◌, Bool, true, false, cond, not, ◌&&◌, List, [], ◌∷◌, ◌++◌, length, map, All, Contains, Option, Some, None, ℤ, pos, negsuc, inl, inr, refl, sym, ap, subst, ◌∙◌, arith}
+use Rattle.std.proofs.Common.{◌≡◌, ℕ, zero, suc, ◌+◌, ◌<◌, ◌≤◌, ◌==◌, Bool, true, false, cond, not, List, [], ◌∷◌, ◌++◌, length, map, All, Contains, Option, Some, None, ℤ, pos, negsuc, inl, inr, refl, sym, ap, subst, ◌∙◌, arith}
 use Rattle.std.specs.Prelude.{option_map, option_and_then, option_to_list, is_some, IfSome, unsigned_abs, int_lt}
-use Rattle.std.specs.List.{flat_map, list_any, range_with_len, remove}
+use Rattle.std.specs.List.{list_any, range_with_len, remove}
 use Rattle.std.specs.List.Sorted.{IsPermutation}
 use Rattle.std.specs.Ordering.{int_eq}
 use Rattle.std.proofs.lemmas.Bool.{false≢true, cases_lt, or_cases, or_parts}
@@ -25,11 +25,9 @@ use Rattle.hpf_map.specs.declared.stages.Behind.{Behind}
 use Rattle.hpf_map.specs.Declarations.{threaded, names_after}
 use Rattle.hpf_map.specs.Expressions.{list_breaches, directive_breaches}
 use Rattle.hpf_map.specs.Fit.{IsFree}
-use Rattle.hpf_map.specs.Gathered.{all_of}
 use Rattle.hpf_map.specs.Layers.{names_of, ordered_breaches, breaches_in}
 use Rattle.hpf_map.specs.Lines.{entries_of, number_of, statement_line, all_lines}
 use Rattle.hpf_map.specs.Mappings.{IsMappedLine, IsReadyLine, CanPermute, CanHold}
-use Rattle.hpf_map.specs.Pipeline.{lines}
 use Rattle.hpf_map.specs.Refusal.{all_breaches}
 use Rattle.hpf_map.specs.Sound.{AreGood}
 use Rattle.hpf_map.specs.Spaces.{meaning_shape, shape_of}
@@ -40,7 +38,7 @@ use Rattle.hpf_map.proofs.EmptyLemmas.{first_empty, others_empty, breach_if_none
 use Rattle.hpf_map.proofs.FreeLemmas.{HasValue, IsUsable, IsReady, usable_names, item_ready, expression_there, all_there, names_free}
 use Rattle.hpf_map.proofs.ResolveLemmas.{lines_mapped, line_arrays}
 use Rattle.hpf_map.proofs.SoundLemmas.{first_true, second_true, shape_good, names_of_sound}
-use Rattle.hpf_map.proofs.UnbrokenLemmas.{AreNone, all_none, used_is, free_at, array_shaped}
+use Rattle.hpf_map.proofs.UnbrokenLemmas.{all_none, used_is, free_at, array_shaped}
 
 -- ---- what lines say
 

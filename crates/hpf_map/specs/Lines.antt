@@ -1,5 +1,5 @@
 -- What the lines of a pipeline say, where these names are declared before them (this project defines them).
-use Rattle.std.specs.Prelude.{List, [], ◌∷◌, length, map, true, false, Option, Some, None, option_map, option_to_list}
+use Rattle.std.specs.Prelude.{List, [], length, map, true, false, Option, Some, None, option_map, option_to_list}
 use Rattle.hpf_syntax.specs.Plain.{Tree, ItemTree, Input, Stage}
 use Rattle.hpf_map.specs.declared.lines.Entries.{Entries}
 use Rattle.hpf_map.specs.declared.lines.Line.{Line}

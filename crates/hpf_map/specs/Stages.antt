@@ -1,7 +1,7 @@
 -- The lines of a pipeline, each beside those in front of it: STAGE, PERMUTE and BUFFERS (this project defines them).
-use Rattle.std.specs.Prelude.{ℕ, zero, suc, ◌-◌, List, [], ◌∷◌, ◌++◌, length, map, Bool, true, false, not, ◌&&◌, ◌||◌, ◌==◌, Option, Some, None, option_and_then, if◌then◌else◌, slice_index_or, ℤ, pos, int_lt, unsigned_abs}
+use Rattle.std.specs.Prelude.{ℕ, zero, suc, ◌-◌, List, [], ◌∷◌, ◌++◌, length, Bool, true, false, not, ◌&&◌, ◌||◌, ◌==◌, Option, Some, None, option_and_then, if◌then◌else◌, slice_index_or, ℤ, pos, int_lt, unsigned_abs}
 use Rattle.std.specs.Ordering.{int_eq}
-use Rattle.std.specs.List.{list_any, range_with_len}
+use Rattle.std.specs.List.{list_any}
 use Rattle.hpf_lex.specs.declared.refusal.MapRefusal.{MapRefusal}
 use Rattle.hpf_syntax.specs.declared.tree.Spot.{Spot}
 use Rattle.hpf_syntax.specs.Plain.{ItemTree}

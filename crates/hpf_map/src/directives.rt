@@ -270,7 +270,10 @@ pub(crate) fn read_directive(
             });
         }
         Item::Input {
-            name, buffers, op, ..
+            name,
+            buffers,
+            op,
+            ..
         } => {
             return Ok(Said {
                 subscripts: None,

@@ -89,7 +89,11 @@ pub(crate) fn read_permute(
 
 /// The number that an expression is, if there is one, and the breaches in it.
 #[tactic(auto, using(crate::proofs::FoundLemmas::least_with_laws))]
-pub(crate) fn read_number(scope: &Scope, e: &Option<Expr>, breaches: &mut Breaches) -> Option<Number>
+pub(crate) fn read_number(
+    scope: &Scope,
+    e: &Option<Expr>,
+    breaches: &mut Breaches,
+) -> Option<Number>
     ensures said { result ≡ option_map (number_of scope.now) (option_map tree e.now) }
     ensures breaches { breaches.new ≡ least_with breaches.old
         (maybe_expression_breaches scope.now (option_map tree e.now)) }

@@ -159,9 +159,12 @@ fn buffers_of(buffers: &Option<Number>) -> u32
     ensures few { result ≤ max_buffers }
 {
     match buffers {
-        Some(Number {
-            value: Some(value), ..
-        }) => value.unsigned_abs(),
+        Some(
+            Number {
+                value: Some(value),
+                ..
+            },
+        ) => value.unsigned_abs(),
         Some(_) => unreachable!(),
         None => BUFFERS,
     }

@@ -1,5 +1,5 @@
-use Rattle.std.proofs.Common.{ap, sym, refl, ◌∙◌, true, false, Some, None, not, ◌||◌}
-use Rattle.std.specs.List.{list_any, find}
+use Rattle.std.proofs.Common.{ap, sym, refl, ◌∙◌, true, false, not, ◌||◌}
+use Rattle.std.specs.List.{list_any}
 use Rattle.hpf_map.specs.Distributions.{fits, is_broken}
 use Rattle.hpf_map.proofs.ArrangementLemmas.{nothing_is}
 use Rattle.hpf_map.proofs.distributions.nothing_fits.Goals as goal
