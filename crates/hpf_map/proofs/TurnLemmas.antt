@@ -182,8 +182,8 @@ module _ (items : List ItemTree) (free : All IsFree (names_of items)) where
       → shape_of names Array line.array.word ≡ Some spans → stage.mapping.bounds ≡ map run_of spans
   stage_bounds line stage spans is mapped shape =
       let maps : MapsBy items mapped.place (Some mapped.statement) (Some stage.mapping) =
-          subst (λ s. MapsBy items mapped.place s (Some stage.mapping)) mapped.distributed
-          (subst (λ o. Maps items o (Some stage.mapping)) mapped.array is.mapping) in
+      subst (λ s. MapsBy items mapped.place s (Some stage.mapping)) mapped.distributed
+      (subst (λ o. Maps items o (Some stage.mapping)) mapped.array is.mapping) in
       let used = used_is names Array line.array.word mapped.place mapped.array in
       let at : shape_at names items mapped.place ≡ Some spans = sym (same_shape names Array line.array.word mapped.place used) ∙ shape in
       let both : Some (map run_of spans) ≡ Some stage.mapping.bounds = sym (ap (option_map (map run_of)) at) ∙ maps.bounds in
@@ -203,10 +203,10 @@ module _ (items : List ItemTree) (free : All IsFree (names_of items)) where
       let a = own_shape items free former.array mapped_before in
       let b = own_shape items free line.array mapped in
       let tested : follower_breaches names (after_line behind former) line ≡ [] =
-          subst (λ f. cond f (follower_breaches names (after_line behind former) line) [] ≡ []) follows (first_empty _ _ none) in
+      subst (λ f. cond f (follower_breaches names (after_line behind former) line) [] ≡ []) follows (first_empty _ _ none) in
       let of_shapes : permute_breaches (Some a.0) (Some b.0) line ≡ [] =
-          subst (λ o. permute_breaches o (Some b.0) line ≡ []) a.1
-          (subst (λ o. permute_breaches (shape_of names Array former.array.word) o line ≡ []) b.1 (others_empty _ _ tested)) in
+      subst (λ o. permute_breaches o (Some b.0) line ≡ []) a.1
+      (subst (λ o. permute_breaches (shape_of names Array former.array.word) o line ≡ []) b.1 (others_empty _ _ tested)) in
       let agree = not_false _ (breach_if_none (not (agrees (Some a.0) b.0 line.permute)) Pipeline line.array.at (others_empty _ _ of_shapes)) in
       let bounds_before = stage_bounds former before a.0 is_before mapped_before a.1 in
       let bounds = stage_bounds line stage b.0 is mapped b.1 in

@@ -58,7 +58,7 @@ returns c =
     let items = map item_tree c.args.items.now in
     let stages = c.in_ok-stages.stages.items in
     let zip : AllZip (IsStageOf items) (all_lines items) stages =
-        subst (λ lines. AllZip (IsStageOf items) lines stages) (c.as_slice-3.ensures.value ∙ c.requires.checked.lines) c.in_ok-stages.ensures in
+    subst (λ lines. AllZip (IsStageOf items) lines stages) (c.as_slice-3.ensures.value ∙ c.requires.checked.lines) c.in_ok-stages.ensures in
     subst (IsProgram items) (sym c.new.ensures)
     (program_is items _ _ _ _ c.requires.checked.names c.in_ok-mappings.ensures zip c.in_ok-counts.ensures
     (in_turn c.args.need items stages c.requires.none zip))
