@@ -22,8 +22,8 @@ use Rattle.hpf_map.specs.Ways.{ways_of, mapped_twice_breaches, first_uses, cycle
 use Rattle.hpf_map.specs.Widths.{all_widths}
 
 -- all breaches in a text, for what is needed: in names, values, shapes, lists and widths, in alignments, in distributions and
--- their formats, of names that are mapped twice or on a cycle, in the lines of the pipeline, of names that are shadowed, and of lines beside
--- those in front of them
+-- their formats, of names that are mapped twice or on a cycle, in the lines of the pipeline, of names that are shadowed, and
+-- of lines beside those in front of them
 unfoldable pub all_breaches : Need → List ItemTree → List MapRefusal
 all_breaches need items =
     breaches_in items

@@ -9,7 +9,8 @@
 //!     `shadow_widths`).
 //!   - `alignments` and `distributions` (`arrangements`): directives, each by itself; `dealing` and `formats`: what each format
 //!     of a DISTRIBUTE asks for; `ways` and `cycles`: how each name is mapped, and chains.
-//!   - `pipeline`: the lines of a pipeline; `stages`: each beside those in front of it (`lines` is what they say); `shadows`: names in SHADOW, and the first one of each array.
+//!   - `pipeline`: the lines of a pipeline; `stages`: each beside those in front of it (`lines` is what they say); `shadows`:
+//!     names in SHADOW, and the first one of each array.
 //! - `direct`: the images of each array in its base; `landings`: those in its ultimate base, composed once an array
 //!   (`plain`, `compose`).
 //! - `cuts`: how each dimension of a base is divided; `mapped`, `mappings`: the mapping of an array, and those of all, with
