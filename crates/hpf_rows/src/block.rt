@@ -28,9 +28,8 @@ impl Kind {
             "ending" | "asks" | "tokens" | "statements" | "places" | "canonical" => {
                 Some(Kind::Question)
             }
-            "names" | "mapping" | "pipeline" | "owners" | "held" | "counts" | "stage" => {
-                Some(Kind::Question)
-            }
+            "names" | "mapping" | "pipeline" | "owners" | "held" | "counts" | "stages" | "routes" =>
+                { Some(Kind::Question) }
             "word"
             | "message"
             | "last"
