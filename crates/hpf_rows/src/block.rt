@@ -28,8 +28,9 @@ impl Kind {
             "ending" | "asks" | "tokens" | "statements" | "places" | "canonical" => {
                 Some(Kind::Question)
             }
-            "names" | "mapping" | "pipeline" | "owners" | "held" | "counts" | "stages" | "routes" =>
-                { Some(Kind::Question) }
+            "names" | "mapping" | "pipeline" | "owners" | "held" | "counts" | "stages" => {
+                Some(Kind::Question)
+            }
             "word"
             | "message"
             | "last"

@@ -29,7 +29,6 @@ mod parts;
 mod piece;
 mod question;
 mod reading;
-mod routes;
 mod row;
 mod run;
 mod scope;

@@ -3,7 +3,6 @@
 use crate::elements::owners_in;
 use crate::held::held_in;
 use crate::lexemes::lexemes;
-use crate::routes::routes_of;
 use crate::stages::stages_of;
 use crate::text::text_of;
 use crate::trees::statements;
@@ -33,7 +32,6 @@ fn meaning(alloc: Global, head: &str, row: &str) -> Result<String> {
         "pipeline" => Ok(judged(alloc, judge(alloc, &text, Need::Pipeline))?),
         "counts" => counts_in(alloc, &text),
         "stages" => stages_in(alloc, &text),
-        "routes" => routes_in(alloc, &text),
         _ => array(alloc, head, &text),
     }
 }
@@ -52,14 +50,6 @@ fn array(alloc: Global, head: &str, row: &str) -> Result<String> {
 fn stages_in(alloc: Global, text: &str) -> Result<String> {
     match program(alloc, text, Need::Pipeline) {
         Ok(program) => stages_of(alloc, &program),
-        Err(error) => Ok(judged(alloc, Err(error))?),
-    }
-}
-
-/// The routes between the first two stages of a text, or its refusal.
-fn routes_in(alloc: Global, text: &str) -> Result<String> {
-    match program(alloc, text, Need::Pipeline) {
-        Ok(program) => routes_of(alloc, &program),
         Err(error) => Ok(judged(alloc, Err(error))?),
     }
 }

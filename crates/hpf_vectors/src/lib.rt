@@ -64,8 +64,6 @@
 //! counts TEXT       how much it declares
 //! stages TEXT       its stages: of each the array, the dimensions of the stage before that stand in its own, its buffers and
 //!                   the owners of its elements
-//! routes TEXT       the routes from its first stage to its second: of each with an element its sender and receiver, and of
-//!                   each step the place that it leaves, the place that it enters and its length
 //! word WORD         the name that it is; `message ERROR` the message of an error
 //! last TEXT~9       how many tokens the first 9 bytes of this text have, again and again, and the place of the last
 //! printed A~B~9     how long A with nine times B behind it is, and whether it is its own canonical text
@@ -82,7 +80,6 @@ mod constraints;
 mod grammar;
 mod long;
 mod made;
-mod routes;
 mod shadows;
 mod stages;
 mod tokens;
@@ -217,10 +214,6 @@ pub const STAGES: &[Table] = &[
     Table {
         title: "stages",
         rows: stages::STAGES,
-    },
-    Table {
-        title: "routes",
-        rows: routes::ROUTES,
     },
 ];
 
